@@ -1,0 +1,135 @@
+-- Laws of sets of events: membership in a list, the least member, counting, and sets filled number by number.
+-- Assumes nothing.
+use mathlib.Core.Path.{_≡_, refl, sym, ap, ap₂, subst, _∙_, fun-ext}
+use mathlib.Core.List.{List, [], _∷_}
+use mathlib.Core.Bool.{Bool, true, false, not, _&&_, _||_, false≢true}
+use Prim.Native.Nat.{ℕ, zero, suc, _+_, _<_, _≤_}
+use native.Mathlib.Numerals.{add-one}
+use native.Mathlib.Omega.{arith}
+use native.Mathlib.Decide.{ℕ-discrete, decLt}
+use borrow.Author.Tests.{eq-eqb, ne-eqb, lt-ltb, le-ltb}
+use lib.Dec.{eqb, ltb}
+use Rattle.relation.specs.Rel.{Set, Rel, empty, single, union, some, image, least, count, below}
+use Rattle.relation.specs.Ring.{under}
+
+pub or-comm : (a b : Bool) → a || b ≡ b || a
+or-comm true true = refl
+or-comm true false = refl
+or-comm false true = refl
+or-comm false false = refl
+
+pub or-false : (x : Bool) → x || false ≡ x
+or-false true = refl
+or-false false = refl
+
+pub and-false : (x : Bool) → x && false ≡ false
+and-false true = refl
+and-false false = refl
+
+-- The least member.
+pub least-at : (n : ℕ) (s : Set) (k : ℕ) → k < n → s k ≡ true → ((m : ℕ) → m < k → s m ≡ false) → least n s ≡ k
+unfolding least
+least-at zero s k h t f = absurd (omega arith)
+least-at (suc n) s zero h t f = rw (t, least)
+least-at (suc n) s (suc k) h t f =
+    rw (f zero (omega arith), least) (ap suc (least-at n (λ j. s (suc j)) k (omega arith) t (λ m g. f (suc m) (omega arith))))
+
+pub least-none : (n : ℕ) (s : Set) → ((m : ℕ) → m < n → s m ≡ false) → least n s ≡ n
+unfolding least
+least-none zero s f = refl
+least-none (suc n) s f =
+    rw (f zero (omega arith), least) (ap suc (least-none n (λ j. s (suc j)) (λ m g. f (suc m) (omega arith))))
+
+-- What a least member is: a member that no smaller number is, or n with no member below n.
+pub record Least (n : ℕ) (s : Set) (k : ℕ) : Type 0 where
+  pub bound : k ≤ n
+  pub member : k < n → s k ≡ true
+  pub smaller : (m : ℕ) → m < k → s m ≡ false
+
+least-step : (n : ℕ) (s : Set) (b : Bool) → s zero ≡ b → (k : ℕ) → Least n (λ j. s (suc j)) k
+    → Least (suc n) s (elim b [ true ↦ zero | false ↦ suc k ])
+least-step n s true e k w = record { bound = omega arith; member = λ h. e; smaller = λ m h. absurd (omega arith) }
+least-step n s false e k w =
+    record { bound = omega (arith, w .bound); member = λ h. w .member (omega arith); smaller = earlier }
+  where
+    earlier : (m : ℕ) → m < suc k → s m ≡ false
+    earlier zero h = e
+    earlier (suc m) h = w .smaller m (omega arith)
+
+pub least-is : (n : ℕ) (s : Set) → Least n s (least n s)
+unfolding least
+least-is zero s = record { bound = omega arith; member = λ h. absurd (omega arith); smaller = λ m h. absurd (omega arith) }
+least-is (suc n) s = least-step n s (s zero) refl (least n (λ j. s (suc j))) (least-is n (λ j. s (suc j)))
+
+-- A set has its least member below n where it has any.
+pub least-lt : (n : ℕ) (s : Set) (k : ℕ) → k < n → s k ≡ true → least n s ≤ k
+least-lt n s k h t =
+    elim (decLt k (least n s)) [
+      | yes g ↦ absurd (false≢true (sym (least-is n s .smaller k g) ∙ t))
+      | no g ↦ omega (arith, g)
+    ]
+
+-- Sets filled number by number: the numbers of s below k.
+unfoldable pub upto : ℕ → Set → Set
+upto k s j = ltb j k && s j
+
+pub upto-none : (s : Set) → empty ≡ upto 0 s
+unfolding upto empty
+upto-none s = fun-ext (λ j. sym (ap (λ (b : Bool). b && s j) (le-ltb j 0 (omega arith))))
+
+upto-split : (k : ℕ) (s : Set) (j : ℕ) → upto (k + 1) s j ≡ upto k s j || (eqb k j && s j)
+unfolding upto
+upto-split k s j =
+    elim (ℕ-discrete k j) [
+      | yes e ↦ rw (lt-ltb j (k + 1) (omega arith), le-ltb j k (omega arith), eq-eqb k j e)
+      | no d ↦ rw (ne-eqb k j d, or-false) (ap (λ (b : Bool). b && s j) (same-test d))
+    ]
+  where
+    same-test : (k ≡ j → ⊥) → ltb j (k + 1) ≡ ltb j k
+    same-test d =
+        elim (decLt j k) [
+          | yes h ↦ lt-ltb j (k + 1) (omega arith) ∙ sym (lt-ltb j k h)
+          | no h ↦ le-ltb j (k + 1) (omega (arith, h, d)) ∙ sym (le-ltb j k (omega (arith, h)))
+        ]
+
+only : (s : Set) (k j : ℕ) (b : Bool) → s k ≡ b → eqb k j && s j ≡ eqb k j && b
+only s k j b e =
+    elim (ℕ-discrete k j) [
+      | yes p ↦ ap (λ (x : Bool). eqb k j && x) (ap s (sym p) ∙ e)
+      | no d ↦ rw (ne-eqb k j d)
+    ]
+
+pub upto-with : (k : ℕ) (s t : Set) → t ≡ upto k s → s k ≡ true → union t (single k) ≡ upto (k + 1) s
+unfolding union single
+upto-with k s t p e =
+    fun-ext
+    (λ j. ap₂ _||_ (ap (λ (f : Set). f j) p) (sym (only s k j true e ∙ and-true (eqb k j))) ∙ sym (upto-split k s j))
+  where
+    and-true : (b : Bool) → b && true ≡ b
+    and-true true = refl
+    and-true false = refl
+
+pub upto-keep : (k : ℕ) (s t : Set) → t ≡ upto k s → s k ≡ false → t ≡ upto (k + 1) s
+upto-keep k s t p e =
+    fun-ext
+    (λ j. ap (λ (f : Set). f j) p ∙ sym (or-false (upto k s j))
+    ∙ ap (λ (b : Bool). upto k s j || b) (sym (only s k j false e ∙ and-false (eqb k j))) ∙ sym (upto-split k s j))
+
+pub upto-done : (k n : ℕ) (s t : Set) → n ≤ k → t ≡ upto k s → ((j : ℕ) → n ≤ j → s j ≡ false) → t ≡ s
+unfolding upto
+upto-done k n s t h p out =
+    p
+    ∙ fun-ext
+    (λ j. elim (decLt j n) [
+      | yes g ↦ ap (λ (b : Bool). b && s j) (lt-ltb j k (omega arith))
+      | no g ↦ ap (λ (b : Bool). ltb j k && b) (out j (omega (arith, g))) ∙ and-false (ltb j k) ∙ sym (out j (omega (arith, g)))
+    ])
+
+-- Counting.
+pub count-yes : (n : ℕ) (s : Set) → s n ≡ true → count (n + 1) s ≡ count n s + 1
+unfolding count
+count-yes n s e = rw (add-one n, e, count, add-one (count n s))
+
+pub count-no : (n : ℕ) (s : Set) → s n ≡ false → count (n + 1) s ≡ count n s
+unfolding count
+count-no n s e = rw (add-one n, e, count)

@@ -1,0 +1,68 @@
+-- `grid::diagonal` meets its contract, event by event. Assumes nothing.
+use mathlib.Core.Path.{_≡_, sym, ap, _∙_}
+use mathlib.Core.Logic.{inl, inr}
+use Prim.Native.Nat.{ℕ, _-_, _≤_}
+use lib.ListN.{length}
+use Rattle.relation.specs.Rel.{Set, diagonal, empty}
+use Rattle.relation.specs.Bits.{bit, edge}
+use Rattle.relation.proofs.SetLaws.{upto, upto-none, upto-with, upto-keep, upto-done}
+use Rattle.relation.proofs.GridLaws.{edge-out}
+use borrow.Author.Needs.{needs}
+use Rattle.relation.proofs.grid.diagonal.Statement.{statement}
+use Rattle.relation.proofs.grid.diagonal.Tie as tie
+
+abbrev Inv-loop : tie.InvT-loop
+Inv-loop g r₀ i₀ r i = (i ≤ 64) × (bit r ≡ upto i (diagonal (edge g))) × (length g ≡ 64)
+
+abbrev μ-loop : tie.MeasureT-loop
+μ-loop g r₀ i₀ r i = 64 - i
+
+none-requires : tie.Need-none-requires Inv-loop μ-loop
+none-requires c κs = search needs
+
+loop-holds : tie.Need-loop-holds Inv-loop μ-loop
+loop-holds c = (search needs, c .none .ensures ∙ upto-none _, search needs)
+
+has-requires : tie.Need-has-requires Inv-loop μ-loop
+has-requires c κs = search needs
+
+with-requires : tie.Need-with-requires Inv-loop μ-loop
+with-requires c κs = search needs
+
+add-i : tie.Need-add-i Inv-loop μ-loop
+add-i c = search needs
+
+loop-less : tie.Need-loop-less Inv-loop μ-loop
+loop-less c = search needs
+
+loop-again : tie.Need-loop-again Inv-loop μ-loop
+unfolding diagonal
+loop-again c =
+    let turn = c .before .before in
+    let inv = turn .before .loop .inv in
+    let test = c .before .has .ensures in
+    elim (c .if1 .came) [
+      | inl w ↦ rw (w .2) (search needs, w .1 .ensures ∙ upto-with _ _ _ (inv .1) (sym test ∙ w .0 .taken), inv .2)
+      | inr w ↦ rw (w .1) (search needs, upto-keep _ _ _ (inv .1) (sym test ∙ w .0 .left), inv .2)
+    ]
+
+returns : tie.Need-returns Inv-loop μ-loop
+unfolding diagonal empty
+returns c =
+    let inv = c .before .loop .inv in
+    upto-done _ 64 _ _ (c .loop-test .left) (inv .1) (λ m h. ap (λ (s : Set). s m) (edge-out _ (inv .2) m h))
+
+pub diagonal-spec : {M : Type 1} → statement M
+diagonal-spec =
+    tie.close
+    (tie.spec
+    Inv-loop
+    μ-loop
+    none-requires
+    loop-holds
+    has-requires
+    with-requires
+    add-i
+    loop-less
+    loop-again
+    returns)

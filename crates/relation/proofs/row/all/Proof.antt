@@ -1,0 +1,10 @@
+-- `row::all` meets its contract: every bit is on in eight bytes of 255. Assumes nothing.
+use Rattle.relation.proofs.ByteLaws.{bit-all}
+use Rattle.relation.proofs.row.all.Statement.{statement}
+use Rattle.relation.proofs.row.all.Tie as tie
+
+returns : tie.Need-returns
+returns c = bit-all
+
+pub all-spec : {M : Type 1} → statement M
+all-spec = tie.close (tie.spec returns)

@@ -1,0 +1,58 @@
+-- `row::minus` meets its contract, byte by byte. Assumes nothing.
+use mathlib.Core.Path.{refl, fun-ext}
+use Prim.Native.Nat.{_-_, _≤_}
+use Rattle.relation.specs.Rel.{difference}
+use Rattle.relation.proofs.ByteLaws.{bitBut, but, Bytes, bytes-none, bytes-more, bytes-all, on-but}
+use borrow.Author.Needs.{needs}
+use Rattle.relation.proofs.row.minus.Statement.{statement}
+use Rattle.relation.proofs.row.minus.Tie as tie
+
+abbrev Inv-loop : tie.InvT-loop
+Inv-loop a b r₀ k₀ r k = (k ≤ 8) × Bytes bitBut a b r k
+
+abbrev μ-loop : tie.MeasureT-loop
+μ-loop a b r₀ k₀ r k = 8 - k
+
+loop-holds : tie.Need-loop-holds Inv-loop μ-loop
+loop-holds c = (search needs, bytes-none bitBut _ _ _ (search needs))
+
+array-read-r : tie.Need-array-read-r Inv-loop μ-loop
+array-read-r c = search needs
+
+array-read-r-2 : tie.Need-array-read-r-2 Inv-loop μ-loop
+array-read-r-2 c = search needs
+
+array-read-r-3 : tie.Need-array-read-r-3 Inv-loop μ-loop
+array-read-r-3 c = search needs
+
+array-write-r : tie.Need-array-write-r Inv-loop μ-loop
+array-write-r c = search needs
+
+add-k : tie.Need-add-k Inv-loop μ-loop
+add-k c = search needs
+
+loop-less : tie.Need-loop-less Inv-loop μ-loop
+loop-less c = search needs
+
+loop-again : tie.Need-loop-again Inv-loop μ-loop
+loop-again c = (search needs, bytes-more bitBut _ _ _ _ (c .before .loop .inv .1) (c .loop-test .taken))
+
+returns : tie.Need-returns Inv-loop μ-loop
+unfolding difference
+returns c = fun-ext (bytes-all bitBut but on-but refl _ _ _ _ (c .loop-test .left) (c .before .loop .inv .1))
+
+pub minus-spec : {M : Type 1} → statement M
+minus-spec =
+    tie.close
+    (tie.spec
+    Inv-loop
+    μ-loop
+    loop-holds
+    array-read-r
+    array-read-r-2
+    array-read-r-3
+    array-write-r
+    add-k
+    loop-less
+    loop-again
+    returns)

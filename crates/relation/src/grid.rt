@@ -1,0 +1,257 @@
+// A relation as a grid of 64 rows: j is in row i where the relation holds from i to j.
+// A grid is an array of arrays by value.
+
+use crate::row;
+ghost use mathlib.Core.Path.{_≡_};
+ghost use Prim.Native.Nat.{_<_};
+ghost use Rattle.relation.specs.Rel.{none, pair, either, both, minus, inverse, identity, from, into, image, chain, through, plus, optional, star, diagonal, nodes};
+ghost use Rattle.relation.specs.Bits.{bit, edge};
+
+// The empty relation.
+pub fn empty() -> [[u8; 8]; 64]
+    ensures { λ r. ⌜ edge r ≡ none ⌝ }
+{
+    [[0u8; 8]; 64]
+}
+
+// The events that i is related to.
+pub fn row_of(g: [[u8; 8]; 64], i: usize) -> [u8; 8]
+    requires { ⌜ i < 64 ⌝ }
+    ensures { λ r. ⌜ bit r ≡ edge g i ⌝ }
+{
+    g[i]
+}
+
+// Whether the relation holds from i to j.
+pub fn has(g: [[u8; 8]; 64], i: usize, j: usize) -> bool
+    requires { ⌜ (i < 64) × (j < 64) ⌝ }
+    ensures { λ r. ⌜ r ≡ edge g i j ⌝ }
+{
+    let r = g[i];
+    row::has(r, j)
+}
+
+// The relation with the pair (i, j).
+pub fn with(g: [[u8; 8]; 64], i: usize, j: usize) -> [[u8; 8]; 64]
+    requires { ⌜ (i < 64) × (j < 64) ⌝ }
+    ensures { λ r. ⌜ edge r ≡ either (edge g) (pair i j) ⌝ }
+{
+    let mut h = g;
+    let r = h[i];
+    h[i] = row::with(r, j);
+    h
+}
+
+// Union.
+pub fn or(a: [[u8; 8]; 64], b: [[u8; 8]; 64]) -> [[u8; 8]; 64]
+    ensures { λ r. ⌜ edge r ≡ either (edge a) (edge b) ⌝ }
+{
+    let mut h = a;
+    let mut i: usize = 0;
+    while i < 64 {
+        let x = a[i];
+        let y = b[i];
+        h[i] = row::or(x, y);
+        i += 1;
+    }
+    h
+}
+
+// Intersection.
+pub fn and(a: [[u8; 8]; 64], b: [[u8; 8]; 64]) -> [[u8; 8]; 64]
+    ensures { λ r. ⌜ edge r ≡ both (edge a) (edge b) ⌝ }
+{
+    let mut h = a;
+    let mut i: usize = 0;
+    while i < 64 {
+        let x = a[i];
+        let y = b[i];
+        h[i] = row::and(x, y);
+        i += 1;
+    }
+    h
+}
+
+// Difference.
+pub fn minus(a: [[u8; 8]; 64], b: [[u8; 8]; 64]) -> [[u8; 8]; 64]
+    ensures { λ r. ⌜ edge r ≡ minus (edge a) (edge b) ⌝ }
+{
+    let mut h = a;
+    let mut i: usize = 0;
+    while i < 64 {
+        let x = a[i];
+        let y = b[i];
+        h[i] = row::minus(x, y);
+        i += 1;
+    }
+    h
+}
+
+// What g reaches from s in one step.
+pub fn image(s: [u8; 8], g: [[u8; 8]; 64]) -> [u8; 8]
+    ensures { λ r. ⌜ bit r ≡ image nodes (bit s) (edge g) ⌝ }
+{
+    let mut r = row::none();
+    let mut i: usize = 0;
+    while i < 64 {
+        if row::has(s, i) {
+            let x = g[i];
+            let z = row::or(r, x);
+            r = z;
+        }
+        i += 1;
+    }
+    r
+}
+
+// a, then b.
+pub fn then(a: [[u8; 8]; 64], b: [[u8; 8]; 64]) -> [[u8; 8]; 64]
+    ensures { λ r. ⌜ edge r ≡ chain nodes (edge a) (edge b) ⌝ }
+{
+    let mut h = a;
+    let mut i: usize = 0;
+    while i < 64 {
+        let x = a[i];
+        h[i] = image(x, b);
+        i += 1;
+    }
+    h
+}
+
+// The identity on s.
+pub fn identity(s: [u8; 8]) -> [[u8; 8]; 64]
+    ensures { λ r. ⌜ edge r ≡ identity (bit s) ⌝ }
+{
+    let mut h = empty();
+    let mut i: usize = 0;
+    while i < 64 {
+        if row::has(s, i) {
+            let x = row::none();
+            h[i] = row::with(x, i);
+        }
+        i += 1;
+    }
+    h
+}
+
+// g from events of s only.
+pub fn from(s: [u8; 8], g: [[u8; 8]; 64]) -> [[u8; 8]; 64]
+    ensures { λ r. ⌜ edge r ≡ from (bit s) (edge g) ⌝ }
+{
+    let mut h = empty();
+    let mut i: usize = 0;
+    while i < 64 {
+        if row::has(s, i) {
+            let x = g[i];
+            h[i] = x;
+        }
+        i += 1;
+    }
+    h
+}
+
+// g into events of s only.
+pub fn into(g: [[u8; 8]; 64], s: [u8; 8]) -> [[u8; 8]; 64]
+    ensures { λ r. ⌜ edge r ≡ into (edge g) (bit s) ⌝ }
+{
+    let mut h = g;
+    let mut i: usize = 0;
+    while i < 64 {
+        let x = g[i];
+        h[i] = row::and(x, s);
+        i += 1;
+    }
+    h
+}
+
+// The events that are related to j.
+pub fn column(g: [[u8; 8]; 64], j: usize) -> [u8; 8]
+    requires { ⌜ j < 64 ⌝ }
+    ensures { λ r. ⌜ bit r ≡ inverse (edge g) j ⌝ }
+{
+    let mut r = row::none();
+    let mut i: usize = 0;
+    while i < 64 {
+        if has(g, i, j) {
+            let z = row::with(r, i);
+            r = z;
+        }
+        i += 1;
+    }
+    r
+}
+
+// The relation the other way round.
+pub fn inverse(g: [[u8; 8]; 64]) -> [[u8; 8]; 64]
+    ensures { λ r. ⌜ edge r ≡ inverse (edge g) ⌝ }
+{
+    let mut h = g;
+    let mut i: usize = 0;
+    while i < 64 {
+        h[i] = column(g, i);
+        i += 1;
+    }
+    h
+}
+
+// The events that are related to themselves.
+pub fn diagonal(g: [[u8; 8]; 64]) -> [u8; 8]
+    ensures { λ r. ⌜ bit r ≡ diagonal (edge g) ⌝ }
+{
+    let mut r = row::none();
+    let mut i: usize = 0;
+    while i < 64 {
+        if has(g, i, i) {
+            let z = row::with(r, i);
+            r = z;
+        }
+        i += 1;
+    }
+    r
+}
+
+// g, or the identity on s.
+pub fn optional(g: [[u8; 8]; 64], s: [u8; 8]) -> [[u8; 8]; 64]
+    ensures { λ r. ⌜ edge r ≡ optional (bit s) (edge g) ⌝ }
+{
+    or(g, identity(s))
+}
+
+// One round of the closure: g, or two steps of g that meet in k.
+pub fn through(g: [[u8; 8]; 64], k: usize) -> [[u8; 8]; 64]
+    requires { ⌜ k < 64 ⌝ }
+    ensures { λ r. ⌜ edge r ≡ through k (edge g) ⌝ }
+{
+    let y = g[k];
+    let mut h = g;
+    let mut i: usize = 0;
+    while i < 64 {
+        let x = g[i];
+        if row::has(x, k) {
+            h[i] = row::or(x, y);
+        }
+        i += 1;
+    }
+    h
+}
+
+// One or more steps of g.
+pub fn closure(g: [[u8; 8]; 64]) -> [[u8; 8]; 64]
+    ensures { λ r. ⌜ edge r ≡ plus nodes (edge g) ⌝ }
+{
+    let mut h = g;
+    let mut k: usize = 0;
+    while k < 64 {
+        let z = through(h, k);
+        h = z;
+        k += 1;
+    }
+    h
+}
+
+// Any number of steps of g, on the events s.
+pub fn star(g: [[u8; 8]; 64], s: [u8; 8]) -> [[u8; 8]; 64]
+    ensures { λ r. ⌜ edge r ≡ star nodes (bit s) (edge g) ⌝ }
+{
+    optional(closure(g), s)
+}

@@ -1,0 +1,1 @@
+// Rings: the shortest way round, found by the number of steps.

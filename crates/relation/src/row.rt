@@ -1,0 +1,117 @@
+// A set of events as a row of eight bytes, one bit per event: event j is bit j % 8 of byte j / 8.
+
+ghost use mathlib.Core.Path.{_≡_};
+ghost use Prim.Native.Nat.{_<_};
+ghost use Rattle.relation.specs.Rel.{empty, single, union, intersection, difference, least, count};
+ghost use Rattle.relation.specs.Bits.{bit};
+ghost use Rattle.relation.specs.Ring.{under};
+
+// The empty set.
+pub fn none() -> [u8; 8]
+    ensures { λ r. ⌜ bit r ≡ empty ⌝ }
+{
+    [0u8; 8]
+}
+
+// Every number that a row has a bit for.
+pub fn all() -> [u8; 8]
+    ensures { λ r. ⌜ bit r ≡ under 64 ⌝ }
+{
+    [255u8; 8]
+}
+
+// Whether j is in the set.
+pub fn has(row: [u8; 8], j: usize) -> bool
+    requires { ⌜ j < 64 ⌝ }
+    ensures { λ r. ⌜ r ≡ bit row j ⌝ }
+{
+    (row[j >> 3] >> (j & 7)) & 1 == 1
+}
+
+// The set with j.
+pub fn with(row: [u8; 8], j: usize) -> [u8; 8]
+    requires { ⌜ j < 64 ⌝ }
+    ensures { λ r. ⌜ bit r ≡ union (bit row) (single j) ⌝ }
+{
+    let mut r = row;
+    r[j >> 3] = r[j >> 3] | (1u8 << (j & 7));
+    r
+}
+
+// The set without j.
+pub fn without(row: [u8; 8], j: usize) -> [u8; 8]
+    requires { ⌜ j < 64 ⌝ }
+    ensures { λ r. ⌜ bit r ≡ difference (bit row) (single j) ⌝ }
+{
+    let mut r = row;
+    r[j >> 3] = r[j >> 3] ^ (r[j >> 3] & (1u8 << (j & 7)));
+    r
+}
+
+// Union.
+pub fn or(a: [u8; 8], b: [u8; 8]) -> [u8; 8]
+    ensures { λ r. ⌜ bit r ≡ union (bit a) (bit b) ⌝ }
+{
+    let mut r = a;
+    let mut k: usize = 0;
+    while k < 8 {
+        r[k] = a[k] | b[k];
+        k += 1;
+    }
+    r
+}
+
+// Intersection.
+pub fn and(a: [u8; 8], b: [u8; 8]) -> [u8; 8]
+    ensures { λ r. ⌜ bit r ≡ intersection (bit a) (bit b) ⌝ }
+{
+    let mut r = a;
+    let mut k: usize = 0;
+    while k < 8 {
+        r[k] = a[k] & b[k];
+        k += 1;
+    }
+    r
+}
+
+// Difference.
+pub fn minus(a: [u8; 8], b: [u8; 8]) -> [u8; 8]
+    ensures { λ r. ⌜ bit r ≡ difference (bit a) (bit b) ⌝ }
+{
+    let mut r = a;
+    let mut k: usize = 0;
+    while k < 8 {
+        r[k] = a[k] ^ (a[k] & b[k]);
+        k += 1;
+    }
+    r
+}
+
+// The smallest member, or 64 where there is none.
+pub fn first(row: [u8; 8]) -> usize
+    ensures { λ r. ⌜ r ≡ least 64 (bit row) ⌝ }
+{
+    let mut j: usize = 0;
+    while j < 64 {
+        if has(row, j) {
+            return j;
+        }
+        j += 1;
+    }
+    64
+}
+
+// How many members there are.
+pub fn size(row: [u8; 8]) -> usize
+    ensures { λ r. ⌜ r ≡ count 64 (bit row) ⌝ }
+{
+    let mut n: usize = 0;
+    let mut j: usize = 0;
+    while j < 64 {
+        if has(row, j) {
+            n += 1;
+        }
+        j += 1;
+    }
+    n
+}

@@ -1,0 +1,162 @@
+//! The five rules, first broken one named, and the events shown behind the verdict (01, verdicts and "What is shown").
+
+use crate::execution::Execution;
+use crate::models::{armv8, imm, split_pairs};
+use crate::relation::{shortest_path, union, Relation};
+
+/// A verdict with what a shown ring may be made of.
+pub struct Verdict {
+    /// `source` or `chip`
+    pub model: &'static str,
+    /// The first broken rule; none if allowed.
+    pub rule: Option<u8>,
+    /// The events shown. Under rules 3 and 5 they are one legal ring of several.
+    pub events: Vec<u8>,
+    /// Rules 3 and 5: every step of a ring is of this relation,
+    pub steps: Relation,
+    /// but one may be of this one instead, where the ring has two or more events.
+    pub closing: Relation,
+}
+
+/// The IMM verdict.
+pub fn judge_imm(x: &Execution) -> Verdict {
+    let model = imm(x);
+    let steps = union(&[&x.po, &model.sw]);
+    judge("source", x, model.coherent(), steps, model.eco.clone(), model.no_thin_air(), model.ar)
+}
+
+/// The ARMv8 verdict.
+pub fn judge_armv8(x: &Execution) -> Verdict {
+    let model = armv8(x);
+    let (coherent, external) = (model.coherent(), model.external());
+    judge("chip", x, coherent, model.per_location, Relation::empty(), external, model.ob)
+}
+
+/// The rules in their order. `coherent` is rule 3, with the steps and the closing of its rings;
+/// `ordered` is rule 5, of the relation `order`.
+fn judge(
+    model: &'static str,
+    x: &Execution,
+    coherent: bool,
+    steps: Relation,
+    closing: Relation,
+    ordered: bool,
+    order: Relation,
+) -> Verdict {
+    let none = Relation::empty;
+    let fixed = |rule, events| Verdict { model, rule, events, steps: none(), closing: none() };
+
+    // 1: every read has rf. Shown is the smallest read without.
+    for read in x.reads() {
+        if !x.numbers.iter().any(|&w| x.rf.has(w, read)) {
+            return fixed(Some(1), vec![read]);
+        }
+    }
+    // 2: co orders any two writes of a location. Shown is the pair with smallest first, then second.
+    let writes = x.writes();
+    for a in &writes {
+        for b in &writes {
+            let unordered = !x.co.has(a.number, b.number) && !x.co.has(b.number, a.number);
+            if a.number < b.number && a.location == b.location && unordered {
+                return fixed(Some(2), vec![a.number, b.number]);
+            }
+        }
+    }
+    // 3: coherence. Shown is a ring.
+    if !coherent {
+        let events = smallest_first(ring(x, &steps, &closing));
+        return Verdict { model, rule: Some(3), events, steps, closing };
+    }
+    // 4: no rmw pair is also fre then coe. Shown is the pair with smallest read, read then write.
+    let split = split_pairs(x);
+    for &read in &x.numbers {
+        for &write in &x.numbers {
+            if split.has(read, write) {
+                return fixed(Some(4), vec![read, write]);
+            }
+        }
+    }
+    // 5: the order has no ring. Shown is a ring.
+    if !ordered {
+        let events = smallest_first(ring(x, &order, &none()));
+        return Verdict { model, rule: Some(5), events, steps: order, closing: none() };
+    }
+    fixed(None, smallest_available(x, &order))
+}
+
+/// A ring of `steps`, or else a path of `steps` whose ends `closing` joins. The caller knows that there is one.
+fn ring(x: &Execution, steps: &Relation, closing: &Relation) -> Vec<u8> {
+    let mut best: Option<Vec<u8>> = None;
+    let mut offer = |found: Vec<u8>| {
+        if best.as_ref().is_none_or(|b| found.len() < b.len()) {
+            best = Some(found);
+        }
+    };
+    for &a in &x.numbers {
+        if let Some(mut path) = shortest_path(steps, a, a) {
+            path.pop();
+            offer(path);
+        }
+        for &b in &x.numbers {
+            if a != b && closing.has(b, a) {
+                if let Some(path) = shortest_path(steps, a, b) {
+                    offer(path);
+                }
+            }
+        }
+    }
+    best.expect("a broken rule 3 or 5 has a ring")
+}
+
+/// Turns a ring so that it begins with its smallest event.
+fn smallest_first(mut ring: Vec<u8>) -> Vec<u8> {
+    let place = (0..ring.len()).min_by_key(|&i| ring[i]).unwrap();
+    ring.rotate_left(place);
+    ring
+}
+
+/// All events, always taking next the smallest number whose predecessors are out.
+fn smallest_available(x: &Execution, order: &Relation) -> Vec<u8> {
+    let mut out: Vec<u8> = Vec::new();
+    while out.len() < x.numbers.len() {
+        let next = x.numbers.iter().copied().find(|&e| {
+            !out.contains(&e) && x.numbers.iter().all(|&p| !order.has(p, e) || out.contains(&p))
+        });
+        out.push(next.expect("an order without a ring has a first event"));
+    }
+    out
+}
+
+/// Why `ring` may not be shown for a verdict under rule 3 or 5, or nothing if it may.
+pub fn ring_fault(verdict: &Verdict, ring: &[u8]) -> Option<String> {
+    if ring.is_empty() {
+        return Some("the ring is empty".into());
+    }
+    for (i, &e) in ring.iter().enumerate() {
+        if e >= 64 {
+            return Some(format!("{e} is no event"));
+        }
+        if ring[..i].contains(&e) {
+            return Some(format!("event {e} stands twice"));
+        }
+    }
+    if ring.iter().any(|&e| e < ring[0]) {
+        return Some("the smallest event is not first".into());
+    }
+    let mut closings = 0;
+    for (i, &a) in ring.iter().enumerate() {
+        let b = ring[(i + 1) % ring.len()];
+        if verdict.steps.has(a, b) {
+            continue;
+        }
+        if ring.len() >= 2 && verdict.closing.has(a, b) {
+            closings += 1;
+        } else {
+            return Some(format!("{a} to {b} is no step"));
+        }
+    }
+    if closings > 1 {
+        return Some(format!("{closings} steps are eco only"));
+    }
+    None
+}
