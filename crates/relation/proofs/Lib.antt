@@ -2,3 +2,9 @@
 pub mod ByteLaws
 pub mod SetLaws
 pub mod GridLaws
+pub mod Meaning
+pub mod Pigeonhole
+pub mod Walks
+pub mod RingLaws
+pub mod OrderLaws
+pub mod RingMeaning

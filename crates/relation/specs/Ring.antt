@@ -3,10 +3,10 @@
 use mathlib.Core.Path.{_≡_}
 use mathlib.Core.List.{List}
 use mathlib.Core.Bool.{Bool, true, false}
-use Prim.Native.Nat.{ℕ, zero, suc, _<_, _≤_}
+use Prim.Native.Nat.{ℕ, zero, suc, _+_, _-_, _<_, _≤_}
 use lib.Dec.{ltb}
 use lib.ListN.{length, getD}
-use Rattle.relation.specs.Rel.{Rel, Set, either, chain, plus, identity, nodes}
+use Rattle.relation.specs.Rel.{Rel, Set, either, image, chain, inverse, plus, identity, nodes}
 
 -- The event that follows position k of a ring: the first event follows the last.
 unfoldable pub after : List ℕ → ℕ → ℕ
@@ -39,3 +39,47 @@ under n j = ltb j n
 unfoldable pub power : ℕ → Rel → Rel
 power zero r = identity (under 64)
 power (suc n) r = chain nodes (power n r) r
+
+-- The rest says what the parts of the ring routine do.
+
+-- n is the fewest steps of r after which e closes a way from an event back to itself, and s such an event; n is 64 where there is none.
+pub record Shortest (r e : Rel) (n s : ℕ) : Type 0 where
+  pub bound : n ≤ 64
+  pub inside : n < 64 → s < 64
+  pub closes : n < 64 → chain nodes (power n r) e s s ≡ true
+  pub fewest : (m : ℕ) → m < n → (t : ℕ) → chain nodes (power m r) e t t ≡ false
+
+-- Each row of h but the first holds what leads there, by b backward, from the row before it.
+pub record Levels (h b : Rel) : Type 0 where
+  pub leads : (k : ℕ) → suc k < 64 → h (suc k) ≡ image nodes (h k) (inverse b)
+
+-- The first n + 1 of `at` are steps of b backward from x, each in its row of h.
+pub record StepsBack (h b : Rel) (n x : ℕ) (at : List ℕ) : Type 0 where
+  pub long : length at ≡ 64
+  pub end : getD at n zero ≡ x
+  pub level : (k : ℕ) → k ≤ n → h k (getD at k zero) ≡ true
+  pub step : (k : ℕ) → k < n → b (getD at (suc k) zero) (getD at k zero) ≡ true
+
+-- The first n + 1 of `at` are a way of n steps of r from s, whose end e closes.
+pub record Way (r e : Rel) (s n : ℕ) (at : List ℕ) : Type 0 where
+  pub long : length at ≡ 64
+  pub level : (k : ℕ) → k ≤ n → power k r s (getD at k zero) ≡ true
+  pub step : (k : ℕ) → k < n → r (getD at k zero) (getD at (suc k) zero) ≡ true
+  pub close : e (getD at n zero) s ≡ true
+
+-- m is the place of a smallest of the first n.
+pub record SmallestAt (at : List ℕ) (n m : ℕ) : Type 0 where
+  pub inside : m < n
+  pub least : (k : ℕ) → k < n → getD at m zero ≤ getD at k zero
+
+-- The place that comes to k where the place m comes to the front of n places.
+unfoldable pub turnedTo : ℕ → ℕ → ℕ → ℕ
+turnedTo k m n = elim (ltb (k + m) n) [ true ↦ k + m | false ↦ k + m - n ]
+
+-- The first n of `at` come round to `out`, a smallest first.
+pub record Turned (at : List ℕ) (n len : ℕ) (out : List ℕ) : Type 0 where
+  pub same : len ≡ n
+  pub long : length out ≡ 64
+  pub shift : ℕ
+  pub front : SmallestAt at n shift
+  pub each : (k : ℕ) → k < n → getD out k zero ≡ getD at (turnedTo k shift n) zero

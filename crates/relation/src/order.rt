@@ -1,1 +1,29 @@
-// The order in which events are shown.
+// The order in which events are shown: always next the smallest whose predecessors are out.
+
+use crate::Sequence;
+use crate::grid;
+use crate::row;
+ghost use mathlib.Core.Path.{_≡_};
+ghost use lib.ListN.{take};
+ghost use Rattle.relation.specs.Bits.{bit, edge};
+ghost use Rattle.relation.specs.Order.{order};
+
+// The events of s in that order; those that come out are all of them where g has no ring.
+pub fn order(g: [[u8; 8]; 64], s: [u8; 8]) -> Sequence
+    ensures { λ r. ⌜ take (r .len) (r .at) ≡ order 64 (edge g) (bit s) ⌝ }
+{
+    let mut left = s;
+    let mut at = [0u8; 64];
+    let mut n: usize = 0;
+    while n < 64 {
+        let k = row::first(row::minus(left, grid::image(left, g)));
+        if 64 <= k {
+            return Sequence { at, len: n };
+        }
+        at[n] = k as u8;
+        let z = row::without(left, k);
+        left = z;
+        n += 1;
+    }
+    Sequence { at, len: n }
+}

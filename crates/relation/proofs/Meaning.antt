@@ -1,0 +1,154 @@
+-- What the computed operators mean: `some` is "there is an event", `chain` is "there is an event between",
+-- `plus` is one or more steps. Assumes nothing.
+use mathlib.Core.Path.{_≡_, refl, sym, ap, subst, _∙_}
+use mathlib.Core.List.{List, [], _∷_}
+use mathlib.Core.Bool.{Bool, true, false, _&&_, _||_, false≢true}
+use mathlib.Core.Logic.{_⊎_, inl, inr}
+use Prim.Native.Nat.{ℕ, zero, suc, _<_}
+use native.Mathlib.Omega.{arith}
+use native.Mathlib.Decide.{ℕ-discrete}
+use Rattle.relation.specs.Rel.{Set, Rel, some, image, chain, through, plus, below}
+
+-- An event of a list.
+pub data Mem (x : ℕ) : List ℕ → Type 0 where
+  here : {es : List ℕ} → Mem x (x ∷ es)
+  there : {e : ℕ} {es : List ℕ} → Mem x es → Mem x (e ∷ es)
+
+-- One or more steps of r.
+pub data Steps (r : Rel) (x : ℕ) : ℕ → Type 0 where
+  one : {y : ℕ} → r x y ≡ true → Steps r x y
+  more : {y z : ℕ} → Steps r x y → r y z ≡ true → Steps r x z
+
+pub and-left : (a b : Bool) → a && b ≡ true → a ≡ true
+and-left true b e = refl
+and-left false b e = absurd (false≢true e)
+
+pub and-right : (a b : Bool) → a && b ≡ true → b ≡ true
+and-right true b e = e
+and-right false b e = absurd (false≢true e)
+
+pub and-both : (a b : Bool) → a ≡ true → b ≡ true → a && b ≡ true
+and-both true b p q = q
+and-both false b p q = p
+
+pub or-either : (a b : Bool) → a || b ≡ true → (a ≡ true) ⊎ (b ≡ true)
+or-either true b e = inl refl
+or-either false b e = inr e
+
+pub or-left : (a b : Bool) → a ≡ true → a || b ≡ true
+or-left true b e = refl
+or-left false b e = absurd (false≢true e)
+
+pub or-right : (a b : Bool) → b ≡ true → a || b ≡ true
+or-right true b e = refl
+or-right false b e = e
+
+-- `some`: there is an event of the list in the set.
+pub some-sound : (es : List ℕ) (s : Set) → some es s ≡ true → (x : ℕ) × Mem x es × (s x ≡ true)
+unfolding some
+some-sound [] s p = absurd (false≢true p)
+some-sound (e ∷ es) s p =
+    elim (or-either (s e) (some es s) p) [
+      | inl q ↦ (e, here, q)
+      | inr q ↦ let (x, m, h) = some-sound es s q in (x, there m, h)
+    ]
+
+pub some-complete : (es : List ℕ) (s : Set) (x : ℕ) → Mem x es → s x ≡ true → some es s ≡ true
+unfolding some
+some-complete _ s x here p = or-left (s x) _ p
+some-complete _ s x (there {e = e} {es = es} m) p = or-right (s e) (some es s) (some-complete es s x m p)
+
+pub mem-below : (n x : ℕ) → x < n → Mem x (below n)
+unfolding below
+mem-below zero x h = absurd (omega arith)
+mem-below (suc n) x h =
+    elim (ℕ-discrete x n) [
+      | yes e ↦ subst (λ (k : ℕ). Mem x (k ∷ below n)) e here
+      | no d ↦ there (mem-below n x (omega (arith, d)))
+    ]
+
+pub below-mem : (n x : ℕ) → Mem x (below n) → x < n
+unfolding below
+below-mem (suc n) x here = omega arith
+below-mem (suc n) x (there m) = let h = below-mem n x m in omega arith
+
+-- `image` and `chain`: there is an event between.
+pub image-sound : (es : List ℕ) (s : Set) (r : Rel) (y : ℕ) → image es s r y ≡ true → (x : ℕ) × Mem x es × (s x ≡ true) × (r x y ≡ true)
+unfolding image
+image-sound es s r y p =
+    let (x, m, q) = some-sound es (λ i. s i && r i y) p in
+    (x, m, and-left (s x) (r x y) q, and-right (s x) (r x y) q)
+
+pub image-complete : (es : List ℕ) (s : Set) (r : Rel) (x y : ℕ) → Mem x es → s x ≡ true → r x y ≡ true → image es s r y ≡ true
+unfolding image
+image-complete es s r x y m p q = some-complete es (λ i. s i && r i y) x m (and-both (s x) (r x y) p q)
+
+pub chain-sound : (es : List ℕ) (r s : Rel) (x z : ℕ) → chain es r s x z ≡ true
+    → (y : ℕ) × Mem y es × (r x y ≡ true) × (s y z ≡ true)
+unfolding chain
+chain-sound es r s x z p = image-sound es (r x) s z p
+
+pub chain-complete : (es : List ℕ) (r s : Rel) (x y z : ℕ) → Mem y es → r x y ≡ true → s y z ≡ true → chain es r s x z ≡ true
+unfolding chain
+chain-complete es r s x y z m p q = image-complete es (r x) s y z m p q
+
+-- Steps follow on steps.
+pub steps-join : {r : Rel} {x y z : ℕ} → Steps r x y → Steps r y z → Steps r x z
+steps-join a (one h) = more a h
+steps-join a (more b h) = more (steps-join a b) h
+
+-- `plus`: one or more steps.
+pub plus-sound : (es : List ℕ) (r : Rel) (x y : ℕ) → plus es r x y ≡ true → Steps r x y
+unfolding plus through
+plus-sound [] r x y p = one p
+plus-sound (k ∷ ks) r x y p =
+    elim (or-either (plus ks r x y) _ p) [
+      | inl q ↦ plus-sound ks r x y q
+      | inr q ↦ steps-join (plus-sound ks r x k (and-left _ _ q)) (plus-sound ks r k y (and-right (plus ks r x k) _ q))
+    ]
+
+pub plus-holds : (es : List ℕ) (r : Rel) (x y : ℕ) → r x y ≡ true → plus es r x y ≡ true
+unfolding plus through
+plus-holds [] r x y p = p
+plus-holds (k ∷ ks) r x y p = or-left (plus ks r x y) _ (plus-holds ks r x y p)
+
+passes-on : (s : Rel) (k m : ℕ) → ((x y : ℕ) → s x m ≡ true → s m y ≡ true → s x y ≡ true) → (x y : ℕ)
+    → through k s x m ≡ true → through k s m y ≡ true → through k s x y ≡ true
+unfolding through
+passes-on s k m by-m x y p q =
+    elim (or-either (s x m) _ p) [
+      | inl a ↦ elim (or-either (s m y) _ q) [
+        | inl b ↦ or-left (s x y) _ (by-m x y a b)
+        | inr b ↦ by-k (by-m x k a (and-left (s m k) _ b)) (and-right (s m k) _ b)
+      ]
+      | inr a ↦ elim (or-either (s m y) _ q) [
+        | inl b ↦ by-k (and-left (s x k) _ a) (by-m k y (and-right (s x k) _ a) b)
+        | inr b ↦ by-k (and-left (s x k) _ a) (and-right (s m k) _ b)
+      ]
+    ]
+  where
+    by-k : s x k ≡ true → s k y ≡ true → s x y || (s x k && s k y) ≡ true
+    by-k a b = or-right (s x y) _ (and-both (s x k) (s k y) a b)
+
+-- After its round a path may pass an event.
+pub plus-passes : (es : List ℕ) (r : Rel) (m : ℕ) → Mem m es → (x y : ℕ) → plus es r x m ≡ true → plus es r m y ≡ true
+    → plus es r x y ≡ true
+unfolding plus through
+plus-passes (k ∷ ks) r _ here x y p q =
+    or-right (plus ks r x y) _ (and-both (plus ks r x k) (plus ks r k y) (to-k (plus ks r x k) (plus ks r k k) p) (from-k (plus ks r k y) (plus ks r k k) q))
+  where
+    to-k : (a b : Bool) → a || (a && b) ≡ true → a ≡ true
+    to-k true b e = refl
+    to-k false b e = e
+
+    from-k : (a b : Bool) → a || (b && a) ≡ true → a ≡ true
+    from-k true b e = refl
+    from-k false true e = e
+    from-k false false e = e
+plus-passes (k ∷ ks) r m (there i) x y p q = passes-on (plus ks r) k m (plus-passes ks r m i) x y p q
+
+pub plus-complete : (es : List ℕ) (r : Rel) → ((x y : ℕ) → r x y ≡ true → Mem x es) → (x y : ℕ) → Steps r x y
+    → plus es r x y ≡ true
+plus-complete es r inside x y (one h) = plus-holds es r x y h
+plus-complete es r inside x z (more {y = y} a h) =
+    plus-passes es r y (inside y z h) x z (plus-complete es r inside x y a) (plus-holds es r y z h)

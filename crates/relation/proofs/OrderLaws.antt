@@ -1,0 +1,232 @@
+-- Laws of the shown order: made event by event it is the definition, and without a ring every event comes out. Assumes nothing.
+use mathlib.Core.Path.{_≡_, refl, sym, ap, subst, _∙_}
+use mathlib.Core.List.{List, [], _∷_, _++_, append-assoc, append-nil}
+use mathlib.Core.Bool.{Bool, true, false, not, _&&_, false≢true}
+use mathlib.Core.Logic.{_⊎_, inl, inr}
+use Prim.Native.Nat.{ℕ, zero, suc, _+_, _-_, _<_, _≤_}
+use native.Mathlib.Numerals.{add-one}
+use native.Mathlib.Omega.{arith}
+use native.Mathlib.Decide.{ℕ-discrete, decLt}
+use borrow.Author.Tests.{lt-ltb, le-ltb, eq-eqb, ne-eqb}
+use lib.Dec.{ltb, eqb}
+use lib.ListN.{length, take, set, length-set}
+use lib.Seq.{take-suc-set, take-set-le}
+use Rattle.relation.specs.Rel.{Set, Rel, single, difference, image, least, count, plus, nodes}
+use Rattle.relation.specs.Order.{ready, order}
+use Rattle.relation.proofs.SetLaws.{and-false, least-is, least-lt}
+use Rattle.relation.proofs.Meaning.{Mem, here, there, Steps, one, more, steps-join, and-left, and-right, and-both, mem-below, below-mem, image-sound, plus-complete}
+use Rattle.relation.proofs.Pigeonhole.{Twice, pigeonhole}
+use Rattle.relation.proofs.Walks.{Inside}
+
+-- One event more, or no more.
+pub order-next : (n : ℕ) (r : Rel) (s : Set) (k : ℕ) → k ≡ least 64 (ready r s) → k < 64
+    → order (suc n) r s ≡ k ∷ order n r (difference s (single k))
+unfolding order
+order-next n r s k e h =
+    rw (lt-ltb (least 64 (ready r s)) 64 (rw e at h), order)
+    (ap (λ (j : ℕ). j ∷ order n r (difference s (single j))) (sym e))
+
+pub order-stop : (n : ℕ) (r : Rel) (s : Set) → 64 ≤ least 64 (ready r s) → order n r s ≡ []
+unfolding order
+order-stop zero r s h = refl
+order-stop (suc n) r s h = rw (le-ltb (least 64 (ready r s)) 64 h, order)
+
+-- n events are out, and the order of those that are left follows them.
+pub record Out (r : Rel) (s : Set) (at : List ℕ) (n : ℕ) (left : Set) : Type 0 where
+  pub long : length at ≡ 64
+  pub rest : take n at ++ order (64 - n) r left ≡ order 64 r s
+
+pub out-none : (r : Rel) (s : Set) (at : List ℕ) → length at ≡ 64 → Out r s at 0 s
+out-none r s at l = record { long = l; rest = refl }
+
+-- The sets that the code works out in one turn.
+module _ (r : Rel) (s left i m : Set) (at : List ℕ) (n k : ℕ) (out : Out r s at n left) (lt : n < 64)
+    (reached : i ≡ image nodes left r) (readied : m ≡ difference left i) (first : k ≡ least 64 m) where
+  is-first : k ≡ least 64 (ready r left)
+  unfolding ready
+  is-first = first ∙ ap (least 64) (readied ∙ ap (difference left) reached)
+
+  pub out-more : k < 64 → (z : Set) → z ≡ difference left (single k) → Out r s (set at n k) (n + 1) z
+  out-more h z e =
+      record {
+        long = length-set at n k ∙ out .long;
+        rest = rw (add-one n, take-suc-set at n k (omega (arith, out .long)), append-assoc)
+            (ap (λ (l : List ℕ). take n at ++ l) (step ∙ ap (λ (m : ℕ). order m r left) (omega arith)) ∙ out .rest);
+      }
+    where
+      step : k ∷ order (64 - suc n) r z ≡ order (suc (64 - suc n)) r left
+      step = ap (λ (f : Set). k ∷ order (64 - suc n) r f) e ∙ sym (order-next (64 - suc n) r left k is-first h)
+
+  pub out-stop : 64 ≤ k → take n at ≡ order 64 r s
+  out-stop h =
+      sym (append-nil (take n at))
+      ∙ ap (λ (l : List ℕ). take n at ++ l) (sym (order-stop (64 - n) r left (rw is-first at h))) ∙ out .rest
+
+pub out-all : (r : Rel) (s left : Set) (at : List ℕ) (n : ℕ) → 64 ≤ n → Out r s at n left → take n at ≡ order 64 r s
+unfolding order
+out-all r s left at n h out =
+    sym (append-nil (take n at))
+    ∙ ap (λ (m : ℕ). take n at ++ order m r left) (sym (nothing-left h)) ∙ out .rest
+  where
+    nothing-left : 64 ≤ n → 64 - n ≡ 0
+    nothing-left q = omega arith
+
+-- Counting: a member counts, and taking one out counts one less.
+count-cases : (n : ℕ) (s : Set) (b : Bool) → s n ≡ b → count (suc n) s ≡ elim b [ true ↦ suc (count n s) | false ↦ count n s ]
+unfolding count
+count-cases n s b e = rw (e, count)
+
+count-member : (n : ℕ) (s : Set) (j : ℕ) → j < n → s j ≡ true → 0 < count n s
+count-member zero s j h p = absurd (omega arith)
+count-member (suc n) s j h p =
+    elim (ℕ-discrete j n) [
+      | yes e ↦ let c = count-cases n s true (ap s (sym e) ∙ p) in omega arith
+      | no d ↦ let w = count-member n s j (omega (arith, d)) p in at-least (s n) refl w
+    ]
+  where
+    at-least : (b : Bool) → s n ≡ b → 0 < count n s → 0 < count (suc n) s
+    at-least true e w = let c = count-cases n s true e in omega arith
+    at-least false e w = let c = count-cases n s false e in omega arith
+
+count-bound : (n : ℕ) (s : Set) → count n s ≤ n
+unfolding count
+count-bound zero s = omega arith
+count-bound (suc n) s = go (s n) refl (count-bound n s)
+  where
+    go : (b : Bool) → s n ≡ b → count n s ≤ n → count (suc n) s ≤ suc n
+    go true e w = let c = count-cases n s true e in omega arith
+    go false e w = let c = count-cases n s false e in omega arith
+
+without-other : (s : Set) (k j : ℕ) → (k ≡ j → ⊥) → difference s (single k) j ≡ s j
+unfolding difference single
+without-other s k j d = rw (ne-eqb k j d) (and-true (s j))
+  where
+    and-true : (b : Bool) → b && true ≡ b
+    and-true true = refl
+    and-true false = refl
+
+without-self : (s : Set) (k : ℕ) → difference s (single k) k ≡ false
+unfolding difference single
+without-self s k = rw (eq-eqb k k refl) (and-false (s k))
+
+count-same : (n : ℕ) (s t : Set) → ((j : ℕ) → j < n → s j ≡ t j) → count n s ≡ count n t
+unfolding count
+count-same zero s t e = refl
+count-same (suc n) s t e = same (s n) (t n) (e n (omega arith)) refl refl (count-same n s t (λ j h. e j (omega arith)))
+  where
+    same : (a b : Bool) → a ≡ b → s n ≡ a → t n ≡ b → count n s ≡ count n t → count (suc n) s ≡ count (suc n) t
+    same true true q x y w = count-cases n s true x ∙ ap suc w ∙ sym (count-cases n t true y)
+    same false false q x y w = count-cases n s false x ∙ w ∙ sym (count-cases n t false y)
+    same true false q x y w = absurd (false≢true (sym q))
+    same false true q x y w = absurd (false≢true q)
+
+count-without : (n : ℕ) (s : Set) (k : ℕ) → k < n → s k ≡ true → suc (count n (difference s (single k))) ≡ count n s
+count-without zero s k h p = absurd (omega arith)
+count-without (suc n) s k h p =
+    elim (ℕ-discrete k n) [
+      | yes e ↦ ap suc (count-cases n (difference s (single k)) false (ap (difference s (single k)) (sym e) ∙ without-self s k)
+          ∙ count-same n (difference s (single k)) s (λ j g. without-other s k j (omega arith)))
+          ∙ sym (count-cases n s true (ap s (sym e) ∙ p))
+      | no d ↦ one-less (s n) refl (count-without n s k (omega (arith, d)) p) d
+    ]
+  where
+    one-less : (b : Bool) → s n ≡ b → suc (count n (difference s (single k))) ≡ count n s → (k ≡ n → ⊥)
+        → suc (count (suc n) (difference s (single k))) ≡ count (suc n) s
+    one-less true e w d =
+        ap suc (count-cases n (difference s (single k)) true (without-other s k n d ∙ e)) ∙ ap suc w ∙ sym (count-cases n s true e)
+    one-less false e w d =
+        ap suc (count-cases n (difference s (single k)) false (without-other s k n d ∙ e)) ∙ w ∙ sym (count-cases n s false e)
+
+-- Where every event of s has one of s before it, r has a ring.
+module _ (r : Rel) (s : Set) (within : Inside r) (none : 64 ≤ least 64 (ready r s)) where
+  preceded : (x : ℕ) → x < 64 → s x ≡ true → image nodes s r x ≡ true
+  unfolding ready difference
+  preceded x h p = go (image nodes s r x) refl
+    where
+      go : (b : Bool) → image nodes s r x ≡ b → image nodes s r x ≡ true
+      go true e = e
+      go false e =
+          absurd
+          (false≢true
+          (sym (least-is 64 (ready r s) .smaller x (omega arith)) ∙ rw e (and-both (s x) true p refl)))
+
+  -- the event before: the least of s that leads to x
+  previous : ℕ → ℕ
+  previous x = least 64 (λ y. s y && r y x)
+
+  previous-leads : (x : ℕ) → x < 64 → s x ≡ true → (previous x < 64) × (s (previous x) ≡ true) × (r (previous x) x ≡ true)
+  unfolding previous
+  previous-leads x h p =
+      let (y, m, a, b) = image-sound nodes s r x (preceded x h p) in
+      let least-y = least-lt 64 (λ z. s z && r z x) y (below-mem 64 y m) (and-both (s y) (r y x) a b) in
+      let lt : previous x < 64 = omega (arith, least-y, below-mem 64 y m) in
+      let both = least-is 64 (λ z. s z && r z x) .member lt in
+      (lt, and-left _ _ both, and-right (s (previous x)) _ both)
+
+  -- and so on backward
+  back : ℕ → ℕ → ℕ
+  back x zero = x
+  back x (suc i) = previous (back x i)
+
+  back-in : (x : ℕ) → x < 64 → s x ≡ true → (i : ℕ) → (back x i < 64) × (s (back x i) ≡ true)
+  unfolding back
+  back-in x h p zero = (h, p)
+  back-in x h p (suc i) =
+      let (a, b) = back-in x h p i in
+      let (u, v, w) = previous-leads (back x i) a b in
+      (u, v)
+
+  back-steps : (x : ℕ) → x < 64 → s x ≡ true → (i d : ℕ) → Steps r (back x (suc (i + d))) (back x i)
+  unfolding back
+  back-steps x h p i zero =
+      let (a, b) = back-in x h p i in
+      let (u, v, w) = previous-leads (back x i) a b in
+      let e : i ≡ i + 0 = omega arith in
+      subst (λ (k : ℕ). Steps r (previous (back x k)) (back x i)) e (one w)
+  back-steps x h p i (suc d) =
+      let (a, b) = back-in x h p (suc (i + d)) in
+      let (u, v, w) = previous-leads (back x (suc (i + d))) a b in
+      let e : suc (i + d) ≡ i + suc d = omega arith in
+      subst (λ (k : ℕ). Steps r (previous (back x k)) (back x i)) e (steps-join (one w) (back-steps x h p i d))
+
+  no-ready-ring : (x : ℕ) → x < 64 → s x ≡ true → (y : ℕ) × (plus nodes r y y ≡ true)
+  no-ready-ring x h p =
+      let t : Twice (back x) 64 = pigeonhole 64 (back x) (λ i q. back-in x h p i .0) in
+      let a : ℕ = t .first in
+      let b : ℕ = t .second in
+      let e : suc (a + (b - suc a)) ≡ b = omega (arith, t .before) in
+      let around : Steps r (back x b) (back x a) = subst (λ (k : ℕ). Steps r (back x k) (back x a)) e (back-steps x h p a (b - suc a)) in (
+        back x a,
+        plus-complete nodes r (λ u v e. mem-below 64 u (within .source u v e)) (back x a) (back x a)
+            (subst (λ (y : ℕ). Steps r y (back x a)) (sym (t .same)) around),
+      )
+
+-- Where r has no ring, every event of s comes out.
+ready-in : (r : Rel) (s : Set) → least 64 (ready r s) < 64 → s (least 64 (ready r s)) ≡ true
+unfolding ready difference
+ready-in r s q = and-left _ _ (least-is 64 (ready r s) .member q)
+
+head-or-rest : (n : ℕ) (r : Rel) (s : Set) (j k : ℕ) → s j ≡ true → k < 64 → s k ≡ true
+    → (difference s (single k) j ≡ true → Mem j (order n r (difference s (single k)))) → Mem j (k ∷ order n r (difference s (single k)))
+head-or-rest n r s j k p h q rest =
+    elim (ℕ-discrete j k) [
+      | yes e ↦ subst (λ (i : ℕ). Mem j (i ∷ order n r (difference s (single k)))) e here
+      | no d ↦ there (rest (without-other s k j (λ e. d (sym e)) ∙ p))
+    ]
+
+out-by : (r : Rel) → Inside r → ((y : ℕ) → plus nodes r y y ≡ false) → (n : ℕ) (s : Set) → count 64 s ≤ n → (j : ℕ) → j < 64
+    → s j ≡ true → Mem j (order n r s)
+out-by r within acyclic zero s c j h p = let w = count-member 64 s j h p in absurd (omega arith)
+out-by r within acyclic (suc n) s c j h p =
+    let k : ℕ = least 64 (ready r s) in
+    elim (decLt k 64) [
+      | yes q ↦ let member : s k ≡ true = ready-in r s q in
+          let fewer : suc (count 64 (difference s (single k))) ≡ count 64 s = count-without 64 s k q member in
+          rw (order-next n r s k refl q)
+          (head-or-rest n r s j k p q member (out-by r within acyclic n (difference s (single k)) (omega arith) j h))
+      | no q ↦ let (y, e) = no-ready-ring r s within (omega (arith, q)) j h p in absurd (false≢true (sym (acyclic y) ∙ e))
+    ]
+
+pub all-out : (r : Rel) → Inside r → ((y : ℕ) → plus nodes r y y ≡ false) → (s : Set) (j : ℕ) → j < 64 → s j ≡ true
+    → Mem j (order 64 r s)
+all-out r within acyclic s = out-by r within acyclic 64 s (count-bound 64 s)

@@ -1,0 +1,453 @@
+-- Laws of the ring routine: its parts together find a ring exactly where there is one. Assumes nothing.
+use mathlib.Core.Path.{_≡_, refl, sym, ap, ap₂, subst, _∙_, fun-ext}
+use mathlib.Core.List.{List, [], _∷_}
+use mathlib.Core.Bool.{Bool, true, false, _&&_, _||_, false≢true}
+use mathlib.Core.Logic.{_⊎_, inl, inr}
+use Prim.Native.Nat.{ℕ, zero, suc, _+_, _-_, _<_, _≤_}
+use native.Mathlib.Numerals.{add-one}
+use native.Mathlib.Omega.{arith}
+use native.Mathlib.Decide.{ℕ-discrete, decLt}
+use borrow.Author.Count.{below-more}
+use borrow.Author.Tests.{lt-ltb, le-ltb}
+use lib.Dec.{eqb, ltb}
+use lib.ListN.{length, getD, set, take, length-set, List·getD-eq-default}
+use lib.Seq.{getD-set-same, getD-set-other, getD-take, length-take-le}
+use Rattle.relation.specs.Rel.{Set, Rel, empty, single, union, intersection, inverse, identity, image, chain, plus, either, diagonal, least, nodes}
+use Rattle.relation.specs.Bits.{bit, edge}
+use Rattle.relation.specs.Ring.{under, power, after, closed, Ring, RingOrNone, Shortest, Levels, StepsBack, Way, SmallestAt, Turned, turnedTo}
+use Rattle.relation.proofs.ByteLaws.{bit-out}
+use Rattle.relation.proofs.SetLaws.{least-is, least-lt}
+use Rattle.relation.proofs.GridLaws.{Rows, rows-set}
+use Rattle.relation.proofs.Meaning.{and-left, and-right, and-both, or-either, mem-below, below-mem, image-sound, image-complete, chain-sound, chain-complete, plus-sound}
+use Rattle.relation.proofs.Walks.{Inside, Walk, stay, go, counted, walk-join, steps-walk, power-sound, power-complete, shorten, walk-zero}
+
+-- The row of one event is where every walk from it starts.
+pub power-zero : (r : Rel) (s : ℕ) (t u : Set) → s < 64 → t ≡ empty → u ≡ union t (single s) → u ≡ power zero r s
+unfolding power identity union single empty under
+power-zero r s t u h p e =
+    e ∙ fun-ext (λ j. ap (λ (f : Set). f j || eqb s j) p ∙ ap (λ (b : Bool). b && eqb s j) (sym (lt-ltb s 64 h)))
+
+pub power-suc : (r : Rel) (s k : ℕ) (t u : Set) → t ≡ power k r s → u ≡ image nodes t r → u ≡ power (k + 1) r s
+unfolding power chain
+power-suc r s k t u p e = rw (add-one k) (e ∙ ap (λ (f : Set). image nodes f r) p)
+
+-- No event is related to itself where the diagonal has no least member.
+pub no-diagonal : (g : List (List ℕ)) → 64 ≤ least 64 (diagonal (edge g)) → (t : ℕ) → edge g t t ≡ false
+unfolding diagonal edge
+no-diagonal g h t =
+    elim (decLt t 64) [
+      | yes p ↦ least-is 64 (diagonal (edge g)) .smaller t (omega arith)
+      | no p ↦ bit-out (getD g t []) t (omega (arith, p))
+    ]
+
+-- The least of the events of s from which r leads to y.
+pub record Picked (s : Set) (r : Rel) (y k : ℕ) : Type 0 where
+  pub inside : k < 64
+  pub member : s k ≡ true
+  pub leads : r k y ≡ true
+
+pub picked : (s c : Set) (r : Rel) (y k : ℕ) → image nodes s r y ≡ true → c ≡ intersection s (inverse r y) → k ≡ least 64 c
+    → Picked s r y k
+unfolding intersection inverse
+picked s c r y k p e l =
+    let (x, m, a, b) = image-sound nodes s r y p in
+    let t : c x ≡ true = ap (λ (f : Set). f x) e ∙ and-both (s x) (r x y) a b in
+    let below : k < 64 = omega (arith, least-lt 64 c x (below-mem 64 x m) t, below-mem 64 x m) in
+    let q : s k && r k y ≡ true = sym (ap (λ (f : Set). f k) e) ∙ rw l (least-is 64 c .member (omega arith)) in
+    record { inside = below; member = and-left (s k) (r k y) q; leads = and-right (s k) (r k y) q }
+
+-- Steps back: the events from k on are in place.
+pub record Back (h b : Rel) (n x k y : ℕ) (at : List ℕ) : Type 0 where
+  pub long : length at ≡ 64
+  pub bound : k ≤ n
+  pub inside : y < 64
+  pub end : getD at n zero ≡ x
+  pub here : getD at k zero ≡ y
+  pub level : (j : ℕ) → k ≤ j → j ≤ n → h j (getD at j zero) ≡ true
+  pub step : (j : ℕ) → k ≤ j → j < n → b (getD at (suc j) zero) (getD at j zero) ≡ true
+
+pub back-start : (h b : Rel) (n x : ℕ) (at : List ℕ) → length at ≡ 64 → n < 64 → x < 64 → h n x ≡ true → Back h b n x n x (set at n x)
+back-start h b n x at l hn hx p =
+    let same : getD (set at n x) n zero ≡ x = getD-set-same at n x zero (omega arith) in
+    record {
+      long = length-set at n x ∙ l;
+      bound = omega arith;
+      inside = hx;
+      end = same;
+      here = same;
+      level = λ j a c. let q : j ≡ n = omega arith in rw (q, same) p;
+      step = λ j a c. absurd (omega arith);
+    }
+
+-- The event before y: the least of its row that leads to y.
+pub back-pick : (h b : Rel) (n x k j y z : ℕ) (at : List ℕ) (c : Set) → j ≡ suc k → Levels h b → n < 64 → Back h b n x j y at
+    → c ≡ intersection (h k) (b y) → z ≡ least 64 c → Picked (h k) (inverse b) y z
+unfolding inverse
+back-pick h b n x k j y z at c e w hn s p l =
+    let up : h (suc k) y ≡ true = subst (λ (i : ℕ). h i y ≡ true) e (rw (s .here) at (s .level j (omega arith) (s .bound))) in
+    picked (h k) c (inverse b) y z (sym (ap (λ (f : Set). f y) (w .leads k (omega (arith, s .bound)))) ∙ up) p l
+
+pub back-more : (h b : Rel) (n x k top y z : ℕ) (at : List ℕ) → top ≡ suc k → Back h b n x top y at → n < 64 → Picked (h k) (inverse b) y z
+    → Back h b n x k z (set at k z)
+unfolding inverse
+back-more h b n x k top y z at e w hn p =
+    let same : getD (set at k z) k zero ≡ z = getD-set-same at k z zero (omega (arith, w .long, w .bound)) in
+    let kept : (j : ℕ) → suc k ≤ j → getD (set at k z) j zero ≡ getD at j zero
+    = λ j q. getD-set-other at k j z zero (omega arith) in
+    record {
+      long = length-set at k z ∙ w .long;
+      bound = omega (arith, w .bound);
+      inside = p .inside;
+      end = kept n (omega (arith, w .bound)) ∙ w .end;
+      here = same;
+      level = λ j a c. elim (ℕ-discrete j k) [
+        | yes q ↦ rw (q, same) (p .member)
+        | no d ↦ rw (kept j (omega (arith, d))) (w .level j (omega (arith, d)) c)
+      ];
+      step = λ j a c. elim (ℕ-discrete j k) [
+        | yes q ↦ rw (q, same, kept (suc k) (omega arith), ap (λ (i : ℕ). getD at i zero) (sym e), w .here) (p .leads)
+        | no d ↦ rw (kept j (omega (arith, d)), kept (suc j) (omega (arith, d))) (w .step j (omega (arith, d)) c)
+      ];
+    }
+
+pub back-all : (h b : Rel) (n x k y : ℕ) (at : List ℕ) → Back h b n x k y at → k ≤ 0 → StepsBack h b n x at
+back-all h b n x k y at w p =
+    record {
+      long = w .long;
+      end = w .end;
+      level = λ j c. w .level j (omega arith) c;
+      step = λ j c. w .step j (omega arith) c;
+    }
+
+-- The levels of g from s, with its inverse.
+pub levels-lead : (r h b : Rel) (s : ℕ) → ((k : ℕ) → k < 64 → h k ≡ power k r s) → b ≡ inverse r → Levels h b
+unfolding power chain inverse
+levels-lead r h b s w p =
+    record {
+      leads = λ k q. w (suc k) q
+          ∙ ap₂ (λ (f : Set) (t : Rel). image nodes f (λ i j. t j i)) (sym (w k (omega arith))) (sym p);
+    }
+
+-- The last event of a way: the least that n steps reach and that e closes.
+pub closing-pick : (r e h : Rel) (s n x : ℕ) (c : Set) → n < 64 → ((k : ℕ) → k < 64 → h k ≡ power k r s)
+    → chain nodes (power n r) e s s ≡ true → c ≡ intersection (h n) (inverse e s) → x ≡ least 64 c → Picked (h n) e s x
+unfolding chain
+closing-pick r e h s n x c hn w p q l = picked (h n) c e s x (rw (w n hn) p) q l
+
+pub way-of-steps : (r e h b : Rel) (s n x : ℕ) (at : List ℕ) → n < 64 → ((k : ℕ) → k < 64 → h k ≡ power k r s) → b ≡ inverse r
+    → e x s ≡ true → StepsBack h b n x at → Way r e s n at
+unfolding inverse
+way-of-steps r e h b s n x at hn w p c t =
+    record {
+      long = t .long;
+      level = λ k q. sym (ap (λ (f : Set). f (getD at k zero)) (w k (omega arith))) ∙ t .level k q;
+      step = λ k q. sym (ap (λ (f : Rel). f (getD at (suc k) zero) (getD at k zero)) p) ∙ t .step k q;
+      close = rw (t .end) c;
+    }
+
+-- What a walk of n steps from s that e closes comes to.
+closes : (r e : Rel) → Inside r → (n s x : ℕ) → s < 64 → x < 64 → Walk r s n x → e x s ≡ true → chain nodes (power n r) e s s ≡ true
+closes r e i n s x hs hx w c = chain-complete nodes (power n r) e s x s (mem-below 64 x hx) (power-complete r i n s x hs w) c
+
+-- Where 64 steps are not enough to come back, no number is.
+pub none-back : (r e : Rel) → Inside r → Inside e → (n s : ℕ) → 64 ≤ n → Shortest r e n s → (i : ℕ) → closed r e i i ≡ false
+unfolding closed either union
+none-back r e ir ie n s h w i = go-by (e i i || chain nodes (plus nodes r) e i i) refl
+  where
+    short : (m x : ℕ) → m < 64 → i < 64 → Walk r i m x → e x i ≡ true → ⊥
+    short m x hm hi a c =
+        false≢true (sym (w .fewest m (omega arith) i) ∙ closes r e ir m i x hi (ie .source x i c) a c)
+
+    direct : e i i ≡ true → ⊥
+    direct c = short zero i (omega arith) (ie .target i i c) stay c
+
+    around : chain nodes (plus nodes r) e i i ≡ true → ⊥
+    around p =
+        let (x, m, a, c) = chain-sound nodes (plus nodes r) e i i p in
+        let (k, u) = steps-walk (plus-sound nodes r i x a) in
+        let (l, hl, v) = shorten r ir (suc k) (suc k) i x (omega arith) (ie .target x i c) u in
+        short l x hl (ie .target x i c) v c
+
+    go-by : (b : Bool) → e i i || chain nodes (plus nodes r) e i i ≡ b → e i i || chain nodes (plus nodes r) e i i ≡ false
+    go-by false p = p
+    go-by true p = absurd (elim (or-either (e i i) _ p) [ inl c ↦ direct c | inr c ↦ around c ])
+
+-- The events of a shortest way are distinct: what lies between two that are equal could be left out.
+module _ (r e : Rel) (ir : Inside r) (ie : Inside e) (s n : ℕ) (at : List ℕ) (shortest : Shortest r e n s) (lt : n < 64)
+    (way : Way r e s n at) where
+  part : (j d : ℕ) → j + d ≤ n → Walk r (getD at j zero) d (getD at (j + d) zero)
+  part j zero h = subst (λ (k : ℕ). Walk r (getD at j zero) zero (getD at k zero)) (omega arith) stay
+  part j (suc d) h =
+      subst (λ (k : ℕ). Walk r (getD at j zero) (suc d) (getD at k zero)) (omega arith)
+      (go (part j d (omega arith)) (way .step (j + d) (omega arith)))
+
+  way-distinct : (i j : ℕ) → i < j → j ≤ n → getD at i zero ≡ getD at j zero → ⊥
+  way-distinct i j a b p =
+      let first : Walk r s i (getD at i zero) = power-sound r i s (getD at i zero) (way .level i (omega arith)) in
+      let rest : Walk r (getD at j zero) (n - j) (getD at n zero)
+      = subst (λ (k : ℕ). Walk r (getD at j zero) (n - j) (getD at k zero)) (omega arith) (part j (n - j) (omega arith)) in
+      let whole : Walk r s (n - j + i) (getD at n zero)
+      = walk-join first (subst (λ (y : ℕ). Walk r y (n - j) (getD at n zero)) (sym p) rest) in
+      false≢true
+      (sym (shortest .fewest (n - j + i) (omega arith) s)
+      ∙ closes r e ir (n - j + i) s (getD at n zero) (shortest .inside lt) (ie .source (getD at n zero) s (way .close)) whole (way .close))
+
+  way-start : s ≡ getD at zero zero
+  way-start = walk-zero (power-sound r zero s (getD at zero zero) (way .level zero (omega arith)))
+
+-- Turning.
+pub turned-low : (k m n : ℕ) → k + m < n → turnedTo k m n ≡ k + m
+unfolding turnedTo
+turned-low k m n h = rw (lt-ltb (k + m) n h, turnedTo)
+
+pub turned-high : (k m n : ℕ) → n ≤ k + m → turnedTo k m n ≡ k + m - n
+unfolding turnedTo
+turned-high k m n h = rw (le-ltb (k + m) n h, turnedTo)
+
+pub getD-any : (l : List ℕ) (i d f : ℕ) → i < length l → getD l i d ≡ getD l i f
+getD-any [] i d f h = absurd (omega arith)
+getD-any (x ∷ l) zero d f h = refl
+getD-any (x ∷ l) (suc i) d f h = getD-any l i d f (omega arith)
+
+-- Where a place comes from: by the two cases of `turnedTo`.
+record Place (k m n j : ℕ) : Type 0 where
+  inside : j < n
+  from : (j ≡ k + m) ⊎ (j + n ≡ k + m)
+
+place : (k m n : ℕ) → k < n → m < n → Place k m n (turnedTo k m n)
+place k m n hk hm =
+    elim (decLt (k + m) n) [
+      | yes h ↦ record { inside = rw (turned-low k m n h) h; from = inl (turned-low k m n h) }
+      | no h ↦ let e : turnedTo k m n ≡ k + m - n = turned-high k m n (omega (arith, h)) in
+          record { inside = omega (arith, e); from = inr (omega (arith, e, h)) }
+    ]
+
+pub turned-inside : (k m n : ℕ) → k < n → m < n → turnedTo k m n < n
+turned-inside k m n h g = place k m n h g .inside
+
+-- What follows of two places, case by case.
+by-cases : {A B C D : Type 0} {P : Type 0} → A ⊎ B → C ⊎ D → (A → C → P) → (A → D → P) → (B → C → P) → (B → D → P) → P
+by-cases (inl a) (inl c) p q s t = p a c
+by-cases (inl a) (inr d) p q s t = q a d
+by-cases (inr b) (inl c) p q s t = s b c
+by-cases (inr b) (inr d) p q s t = t b d
+
+same-place : (i j m n a b : ℕ) → i < n → j < n → Place i m n a → Place j m n b → a ≡ b → i ≡ j
+same-place i j m n a b hi hj p q e =
+    by-cases (p .from) (q .from) (λ x y. omega arith) (λ x y. absurd (omega (arith, p .inside)))
+    (λ x y. absurd (omega (arith, q .inside))) (λ x y. omega arith)
+
+next-place : (k m n a b : ℕ) → Place k m (n + 1) a → Place (suc k) m (n + 1) b → (a ≡ n → ⊥) → b ≡ suc a
+next-place k m n a b p q d =
+    by-cases (p .from) (q .from) (λ x y. omega arith) (λ x y. absurd (omega (arith, p .inside, d, q .inside)))
+    (λ x y. absurd (omega (arith, q .inside))) (λ x y. omega arith)
+
+wrapped-place : (k m n a b : ℕ) → Place k m (n + 1) a → Place (suc k) m (n + 1) b → k < n → m ≤ n → a ≡ n → b ≡ 0
+wrapped-place k m n a b p q h g e =
+    by-cases (p .from) (q .from) (λ x y. absurd (omega (arith, q .inside))) (λ x y. omega arith)
+    (λ x y. absurd (omega arith)) (λ x y. absurd (omega arith))
+
+zero-place : (m n a : ℕ) → Place 0 m n a → m < n → a ≡ m
+zero-place m n a p h = elim (p .from) [ inl x ↦ omega arith | inr x ↦ absurd (omega arith) ]
+
+last-place : (m n a : ℕ) → Place n m (n + 1) a → m ≤ n → (a ≡ n → ⊥) → m ≡ suc a
+last-place m n a p h d = elim (p .from) [ inl x ↦ absurd (omega (arith, d, p .inside)) | inr x ↦ omega arith ]
+
+last-back : (m n a : ℕ) → Place n m (n + 1) a → m ≤ n → a ≡ n → m ≡ 0
+last-back m n a p h e = elim (p .from) [ inl x ↦ omega arith | inr x ↦ absurd (omega arith) ]
+
+end-place : (k m n a : ℕ) → Place k m (n + 1) a → k < n + 1 → m ≤ n → a ≡ n → k ≡ n - m
+end-place k m n a p h g e = elim (p .from) [ inl x ↦ omega arith | inr x ↦ absurd (omega arith) ]
+
+-- A way that comes round to a smallest event is a ring.
+module _ (r e : Rel) (ir : Inside r) (ie : Inside e) (s n : ℕ) (at : List ℕ) (shortest : Shortest r e n s) (lt : n < 64)
+    (way : Way r e s n at) (len : ℕ) (out : List ℕ) (turned : Turned at (n + 1) len out) where
+  pub ring-of-way : Ring r e (take len out)
+  unfolding after
+  ring-of-way =
+      record {
+        distinct = λ i j a b p. way-distinct-at i j a (rw long at b) p;
+        smallest = λ k h. smallest-at k (rw long at h);
+        closing = n - m;
+        inside = rw long closing-in;
+        steps = λ k h d. step-at k (rw long at h) d;
+        closes = close-at;
+      }
+    where
+      m : ℕ
+      m = turned .shift
+
+      shift-le : m ≤ n
+      shift-le = omega (arith, turned .front .inside)
+
+      from : ℕ → ℕ
+      from k = turnedTo k m (n + 1)
+
+      long : length (take len out) ≡ n + 1
+      long = length-take-le len out (omega (arith, turned .same, turned .long)) ∙ turned .same
+
+      at-place : (k : ℕ) → k < n + 1 → Place k m (n + 1) (from k)
+      at-place k h = place k m (n + 1) h (turned .front .inside)
+
+      event : (k d : ℕ) → k < n + 1 → getD (take len out) k d ≡ getD at (from k) zero
+      event k d h =
+          getD-any (take len out) k d zero (omega (arith, long))
+          ∙ getD-take len out k zero (omega (arith, turned .same)) ∙ turned .each k h
+
+      first-event : getD (take len out) zero zero ≡ getD at m zero
+      first-event = event zero zero (omega arith)
+          ∙ ap (λ (j : ℕ). getD at j zero) (zero-place m (n + 1) (from zero) (at-place zero (omega arith)) (omega (arith, shift-le)))
+
+      -- the event after the last place is the first
+      wraps : (k : ℕ) → k ≡ n → after (take len out) k ≡ getD at m zero
+      wraps k q = List·getD-eq-default (take len out) _ (omega (arith, long)) ∙ first-event
+
+      next : (k : ℕ) → k < n + 1 → (from k ≡ n → ⊥) → after (take len out) k ≡ getD at (suc (from k)) zero
+      next k h d =
+          elim (decLt k n) [
+            | yes g ↦ event (suc k) _ (omega arith)
+                ∙ ap (λ (j : ℕ). getD at j zero)
+                (next-place k m n (from k) (from (suc k)) (at-place k h) (at-place (suc k) (omega arith)) d)
+            | no g ↦ let q : k ≡ n = omega (arith, g) in
+                wraps k q
+                ∙ ap (λ (j : ℕ). getD at j zero) (last-place m n (from k) (subst (λ (x : ℕ). Place x m (n + 1) (from k)) q (at-place k h)) shift-le d)
+          ]
+
+      back : (k : ℕ) → k < n + 1 → from k ≡ n → after (take len out) k ≡ s
+      back k h e′ =
+          elim (decLt k n) [
+            | yes g ↦ event (suc k) _ (omega arith)
+                ∙ ap (λ (j : ℕ). getD at j zero)
+                (wrapped-place k m n (from k) (from (suc k)) (at-place k h) (at-place (suc k) (omega arith)) g shift-le e′)
+                ∙ sym start
+            | no g ↦ let q : k ≡ n = omega (arith, g) in
+                wraps k q
+                ∙ ap (λ (j : ℕ). getD at j zero) (last-back m n (from k) (subst (λ (x : ℕ). Place x m (n + 1) (from k)) q (at-place k h)) shift-le e′)
+                ∙ sym start
+          ]
+        where
+          start : s ≡ getD at zero zero
+          start = way-start r e ir ie s n at shortest lt way
+
+      way-distinct-at : (i j : ℕ) → i < j → j < n + 1 → getD (take len out) i zero ≡ getD (take len out) j zero → ⊥
+      way-distinct-at i j a b p =
+          let same : getD at (from i) zero ≡ getD at (from j) zero = sym (event i zero (omega arith)) ∙ p ∙ event j zero b in
+          let pi = at-place i (omega arith) in
+          let pj = at-place j b in
+          elim (ℕ-discrete (from i) (from j)) [
+            | yes q ↦ let w = same-place i j m (n + 1) (from i) (from j) (omega arith) b pi pj q in omega arith
+            | no d ↦ elim (decLt (from i) (from j)) [
+              | yes q ↦ apart (from i) (from j) q (omega (arith, pj .inside)) same
+              | no q ↦ apart (from j) (from i) (omega (arith, d, q)) (omega (arith, pi .inside)) (sym same)
+            ]
+          ]
+        where
+          apart : (i j : ℕ) → i < j → j ≤ n → getD at i zero ≡ getD at j zero → ⊥
+          apart = way-distinct r e ir ie s n at shortest lt way
+
+      smallest-at : (k : ℕ) → k < n + 1 → getD (take len out) zero zero ≤ getD (take len out) k zero
+      smallest-at k h = rw (first-event, event k zero h) (turned .front .least (from k) (at-place k h .inside))
+
+      closing-in : n - m < n + 1
+      closing-in = omega arith
+
+      closing-end : from (n - m) ≡ n
+      closing-end = turned-low (n - m) m (n + 1) (omega (arith, shift-le)) ∙ omega (arith, shift-le)
+
+      step-at : (k : ℕ) → k < n + 1 → (k ≡ n - m → ⊥) → r (getD (take len out) k zero) (after (take len out) k) ≡ true
+      step-at k h d =
+          let inner : from k ≡ n → ⊥ = λ q. d (end-place k m n (from k) (at-place k h) h shift-le q) in
+          rw (event k zero h, next k h inner) (way .step (from k) (omega (arith, inner, at-place k h .inside)))
+
+      close-at : e (getD (take len out) (n - m) zero) (after (take len out) (n - m)) ≡ true
+      close-at = rw (event (n - m) zero closing-in, back (n - m) closing-in closing-end, closing-end) (way .close)
+
+-- The answer of the ring routine.
+pub ring-none : (r e : Rel) → Inside r → Inside e → (n s : ℕ) → 64 ≤ n → Shortest r e n s → (l : List ℕ) → length l ≡ zero
+    → RingOrNone r e l
+ring-none r e ir ie n s h w l p = record { none = λ q. none-back r e ir ie n s h w; ring = λ q. absurd (omega arith) }
+
+pub ring-some : (r e : Rel) → Inside r → Inside e → (n s : ℕ) (at : List ℕ) → n < 64 → Shortest r e n s → Way r e s n at
+    → (len : ℕ) (out : List ℕ) → Turned at (n + 1) len out → RingOrNone r e (take len out)
+ring-some r e ir ie n s at h w y len out t =
+    record {
+      none = λ q. absurd (omega (arith, q, length-take-le len out (omega (arith, t .same, t .long)), t .same));
+      ring = λ q. ring-of-way r e ir ie s n at w h y len out t;
+    }
+
+-- The rounds of `shortest`.
+pub power-identity : (r p : Rel) (s : Set) → s ≡ under 64 → p ≡ identity s → p ≡ power 0 r
+unfolding power
+power-identity r p s a b = b ∙ ap identity a
+
+pub power-then : (r p q : Rel) (n : ℕ) → p ≡ power n r → q ≡ chain nodes p r → q ≡ power (n + 1) r
+unfolding power
+power-then r p q n a b = rw (add-one n) (b ∙ ap (λ (f : Rel). chain nodes f r) a)
+
+-- Row k: what exactly k steps reach from s.
+unfoldable pub reached : Rel → ℕ → Rel
+reached r s k = power k r s
+
+pub reached-done : (r e : Rel) (s : ℕ) (h : List (List ℕ)) (n : ℕ) → 64 ≤ n → Rows (reached r s) e h n
+    → (k : ℕ) → k < 64 → edge h k ≡ power k r s
+unfolding edge reached
+reached-done r e s h n p w k q = w .done k (omega arith)
+
+pub reached-more : (r e : Rel) (s : ℕ) (h : List (List ℕ)) (k : ℕ) (x : List ℕ) → Rows (reached r s) e h k → k < 64
+    → bit x ≡ power k r s → Rows (reached r s) e (set h k x) (k + 1)
+unfolding reached
+reached-more r e s h k x w p q = rows-set (reached r s) e h k x w p q
+
+-- One round of `shortest`: an event that n steps and e bring back to itself, or none.
+module _ (r e p : Rel) (c : List (List ℕ)) (d : Set) (n s : ℕ) (at-n : p ≡ power n r) (closing : edge c ≡ chain nodes p e)
+    (on : d ≡ diagonal (edge c)) (first : s ≡ least 64 d) where
+  round : (t : ℕ) → edge c t t ≡ chain nodes (power n r) e t t
+  round t = ap (λ (f : Rel). f t t) (closing ∙ ap (λ (f : Rel). chain nodes f e) at-n)
+
+  pub round-found : n < 64 → s < 64 → ((m : ℕ) → m < n → (t : ℕ) → chain nodes (power m r) e t t ≡ false) → Shortest r e n s
+  unfolding diagonal
+  round-found h g fewer =
+      record {
+        bound = omega arith;
+        inside = λ q. g;
+        closes = λ q. sym (round s) ∙ ap (λ (f : Set). f s) (sym on) ∙ rw first (least-is 64 d .member (omega arith));
+        fewest = fewer;
+      }
+
+  pub round-none : 64 ≤ s → (t : ℕ) → chain nodes (power n r) e t t ≡ false
+  round-none g t = sym (round t) ∙ no-diagonal c (subst (λ (f : Set). 64 ≤ least 64 f) on (rw first at g)) t
+
+-- The place of a smallest, one event more at a time.
+pub smallest-one : (at : List ℕ) → SmallestAt at 1 0
+smallest-one at = record { inside = omega arith; least = λ j h. let q : j ≡ 0 = omega arith in rw q (omega arith) }
+
+pub smallest-new : (at : List ℕ) (m k : ℕ) → SmallestAt at k m → getD at k zero < getD at m zero → SmallestAt at (k + 1) k
+smallest-new at m k w h =
+    record { inside = omega arith; least = below-more _ k (λ j q. omega (arith, w .least j q)) (omega arith) }
+
+pub smallest-old : (at : List ℕ) (m k : ℕ) → SmallestAt at k m → getD at m zero ≤ getD at k zero → SmallestAt at (k + 1) m
+smallest-old at m k w h = record { inside = omega (arith, w .inside); least = below-more _ k (w .least) h }
+
+pub smallest-done : (at : List ℕ) (m k n : ℕ) → k ≡ n → SmallestAt at k m → SmallestAt at n m
+smallest-done at m k n e w = subst (λ (j : ℕ). SmallestAt at j m) e w
+
+-- Places turned, one more at a time.
+pub record Turning (at : List ℕ) (n m : ℕ) (out : List ℕ) (k : ℕ) : Type 0 where
+  pub long : length out ≡ 64
+  pub each : (j : ℕ) → j < k → getD out j zero ≡ getD at (turnedTo j m n) zero
+
+pub turning-none : (at : List ℕ) (n m : ℕ) (out : List ℕ) → length out ≡ 64 → Turning at n m out 0
+turning-none at n m out l = record { long = l; each = λ j h. absurd (omega arith) }
+
+pub turning-more : (at : List ℕ) (n m : ℕ) (out : List ℕ) (k j : ℕ) → Turning at n m out k → k < 64 → j ≡ turnedTo k m n
+    → Turning at n m (set out k (getD at j zero)) (k + 1)
+turning-more at n m out k j w h e =
+    record {
+      long = length-set out k _ ∙ w .long;
+      each = below-more _ k (λ i q. getD-set-other out k i _ zero (omega arith) ∙ w .each i q)
+          (getD-set-same out k _ zero (omega (arith, w .long)) ∙ ap (λ (i : ℕ). getD at i zero) e);
+    }
+
+pub turning-all : (at : List ℕ) (n m : ℕ) (out : List ℕ) (k : ℕ) → n ≤ k → Turning at n m out k → SmallestAt at n m → Turned at n n out
+turning-all at n m out k h w s =
+    record { same = refl; long = w .long; shift = m; front = s; each = λ j q. w .each j (omega arith) }

@@ -1,0 +1,35 @@
+-- `ring::ring` meets its contract: no way is closed, or the shortest one comes round. Assumes nothing.
+use mathlib.Core.Path.{refl}
+use Rattle.relation.specs.Ring.{Shortest}
+use Rattle.relation.proofs.Walks.{edge-inside}
+use Rattle.relation.proofs.RingLaws.{ring-none, ring-some}
+use borrow.Author.Needs.{needs}
+use Rattle.relation.proofs.ring.ring.Statement.{statement}
+use Rattle.relation.proofs.ring.ring.Tie as tie
+
+shortest-requires : tie.Need-shortest-requires
+shortest-requires c κs = search needs
+
+returns : tie.Need-returns
+returns c = ring-none _ _ (edge-inside _ (search needs)) (edge-inside _ (search needs)) _ _ (c .if1 .taken) (c .before .shortest .ensures) _ refl
+
+way-requires : tie.Need-way-requires
+way-requires c κs =
+    let found = c .before .shortest .ensures in
+    (found .inside (c .if1 .left), c .if1 .left, found .closes (c .if1 .left))
+
+add-turned : tie.Need-add-turned
+add-turned c = search needs
+
+turned-requires : tie.Need-turned-requires
+turned-requires c κs = search needs
+
+returns-2 : tie.Need-returns-2
+returns-2 c =
+    let start = c .before .before .before in
+    ring-some _ _ (edge-inside _ (search needs)) (edge-inside _ (search needs)) _ _ _ (c .before .before .if1 .left) (start .shortest .ensures) (c .before .way .ensures) _ _ (c .turned .ensures)
+
+pub ring-spec : {M : Type 1} → statement M
+ring-spec =
+    tie.close
+    (tie.spec shortest-requires returns way-requires add-turned turned-requires returns-2)

@@ -1,0 +1,61 @@
+-- `ring::turned` meets its contract, place by place. Assumes nothing.
+use Prim.Native.Nat.{ℕ, _-_, _≤_}
+use native.Mathlib.Omega.{arith}
+use Rattle.relation.specs.Ring.{SmallestAt}
+use Rattle.relation.proofs.RingLaws.{Turning, turning-none, turning-more, turning-all, turned-inside}
+use borrow.Author.Needs.{needs}
+use Rattle.relation.proofs.ring.turned.Statement.{statement}
+use Rattle.relation.proofs.ring.turned.Tie as tie
+
+abbrev Inv-loop : tie.InvT-loop
+Inv-loop len at m out₀ k₀ out k = (k ≤ len) × (len ≤ 64) × SmallestAt at len m × Turning at len m out k
+
+abbrev μ-loop : tie.MeasureT-loop
+μ-loop len at m out₀ k₀ out k = len - k
+
+smallest-at-requires : tie.Need-smallest-at-requires Inv-loop μ-loop
+smallest-at-requires c κs = search needs
+
+loop-holds : tie.Need-loop-holds Inv-loop μ-loop
+loop-holds c = (search needs, search needs, c .smallest-at .ensures, turning-none _ _ _ _ (search needs))
+
+turned-to-requires : tie.Need-turned-to-requires Inv-loop μ-loop
+turned-to-requires c κs = search needs
+
+array-read-out : tie.Need-array-read-out Inv-loop μ-loop
+array-read-out c =
+    let inv = c .before .before .loop .inv in
+    omega (arith, c .turned-to .ensures, turned-inside _ _ _ (c .before .loop-test .taken) (inv .2 .inside))
+
+array-write-out : tie.Need-array-write-out Inv-loop μ-loop
+array-write-out c = search needs
+
+add-k : tie.Need-add-k Inv-loop μ-loop
+add-k c = search needs
+
+loop-less : tie.Need-loop-less Inv-loop μ-loop
+loop-less c = search needs
+
+loop-again : tie.Need-loop-again Inv-loop μ-loop
+loop-again c =
+    let inv = c .before .before .loop .inv in
+    (search needs, inv .1, inv .2, turning-more _ _ _ _ _ _ (inv .3) (omega arith) (c .turned-to .ensures))
+
+returns : tie.Need-returns Inv-loop μ-loop
+returns c = turning-all _ _ _ _ _ (c .loop-test .left) (c .before .loop .inv .3) (c .before .loop .inv .2)
+
+pub turned-spec : {M : Type 1} → statement M
+turned-spec =
+    tie.close
+    (tie.spec
+    Inv-loop
+    μ-loop
+    smallest-at-requires
+    loop-holds
+    turned-to-requires
+    array-read-out
+    array-write-out
+    add-k
+    loop-less
+    loop-again
+    returns)
