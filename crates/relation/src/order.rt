@@ -4,13 +4,15 @@ use crate::Sequence;
 use crate::grid;
 use crate::row;
 ghost use mathlib.Core.Path.{_≡_};
+ghost use Prim.Native.Nat.{_≤_};
 ghost use lib.ListN.{take};
 ghost use Rattle.relation.specs.Bits.{bit, edge};
 ghost use Rattle.relation.specs.Order.{order};
 
 // The events of s in that order; those that come out are all of them where g has no ring.
 pub fn order(g: [[u8; 8]; 64], s: [u8; 8]) -> Sequence
-    ensures { λ r. ⌜ take (r .len) (r .at) ≡ order 64 (edge g) (bit s) ⌝ }
+    ensures bounded { λ r. ⌜ r .len ≤ 64 ⌝ }
+    ensures ordered { λ r. ⌜ take (r .len) (r .at) ≡ order 64 (edge g) (bit s) ⌝ }
 {
     let mut left = s;
     let mut at = [0u8; 64];

@@ -130,7 +130,8 @@ pub fn turned(at: [u8; 64], len: usize) -> Sequence
 
 // A ring, or no event where there is none.
 pub fn ring(g: [[u8; 8]; 64], e: [[u8; 8]; 64]) -> Sequence
-    ensures { λ r. ⌜ RingOrNone (edge g) (edge e) (take (r .len) (r .at)) ⌝ }
+    ensures bounded { λ r. ⌜ r .len ≤ 64 ⌝ }
+    ensures ring { λ r. ⌜ RingOrNone (edge g) (edge e) (take (r .len) (r .at)) ⌝ }
 {
     let found = shortest(g, e);
     let n = found.steps;

@@ -3,6 +3,7 @@
 
 use crate::boundary_events;
 use crate::boundary_links;
+use crate::boundary_several;
 use crate::handmade::*;
 
 pub fn cases() -> Vec<Case> {
@@ -14,6 +15,7 @@ pub fn cases() -> Vec<Case> {
     meetings(&mut cases);
     boundary_events::add(&mut cases);
     boundary_links::add(&mut cases);
+    boundary_several::add(&mut cases);
     cases.0
 }
 

@@ -67,14 +67,12 @@ pub const COUNT_LOCATIONS: usize = 2;
 pub const COUNT_LINKS: usize = 3;
 pub const HEAD_1: usize = 4;
 
-pub const NEXT: usize = 0;
 pub const CLASS: usize = 1;
 pub const MODE: usize = 2;
 pub const FLAG: usize = 3;
 pub const LOCATION: usize = 4;
 pub const VALUE_LOW: usize = 5;
 pub const VALUE_HIGH: usize = 6;
-pub const FIRST_LINK: usize = 7;
 
 pub const LINK_NEXT: usize = 0;
 pub const LINK_TYPE: usize = 1;

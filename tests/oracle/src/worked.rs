@@ -87,7 +87,7 @@ pub const WRONG: [(&str, &str, &str); 17] = [
     ("no ring", STALE, "source broken 3;chip broken 5 1 2 3 4;"),
     ("a number no event has", STALE, "source broken 3 1 2 3 4;chip broken 5 1 2 3 64;"),
     ("two steps that are eco only", NEWER_FIRST, "source broken 3 2 3 4;chip broken 3 2 3 4;"),
-    ("eco closing a ring of one event", NEWER_FIRST, "source broken 3 3;chip broken 3 2 3 4;"),
+    ("a ring of one event that is none", NEWER_FIRST, "source broken 3 3;chip broken 3 2 3 4;"),
     ("one line only", EXAMPLE, "source allowed 1 2 56;"),
     ("a line too many", EXAMPLE, "source allowed 1 2 56;chip allowed 1 2 56;chip allowed 1 2 56;"),
     ("the lines exchanged", EXAMPLE, "chip allowed 1 2 56;source allowed 1 2 56;"),

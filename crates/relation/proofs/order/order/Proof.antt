@@ -1,5 +1,6 @@
 -- `order::order` meets its contract: what is out, followed by the order of what is left, is the order of all. Assumes nothing.
 use Prim.Native.Nat.{ℕ, _-_, _≤_}
+use native.Mathlib.Omega.{arith}
 use lib.ListN.{replicate}
 use Rattle.relation.specs.Bits.{bit, edge}
 use Rattle.relation.proofs.OrderLaws.{Out, out-none, out-more, out-stop, out-all}
@@ -27,9 +28,11 @@ first-requires c κs = search needs
 
 returns : tie.Need-returns Inv-loop μ-loop
 returns c =
-    let turn = c .before .before .before .before in
-    out-stop _ _ _ _ _ _ _ _ (turn .before .loop .inv .1) (turn .loop-test .taken) (c .before .before .before .image .ensures)
-    (c .before .before .minus .ensures) (c .before .first .ensures) (c .if1 .taken)
+    let turn = c .before .before .before .before in (
+      omega arith,
+      out-stop _ _ _ _ _ _ _ _ (turn .before .loop .inv .1) (turn .loop-test .taken) (c .before .before .before .image .ensures)
+          (c .before .before .minus .ensures) (c .before .first .ensures) (c .if1 .taken),
+    )
 
 cast-at : tie.Need-cast-at Inv-loop μ-loop
 cast-at c = search needs
@@ -55,7 +58,7 @@ loop-again c =
     )
 
 returns-2 : tie.Need-returns-2 Inv-loop μ-loop
-returns-2 c = out-all _ _ _ _ _ (c .loop-test .left) (c .before .loop .inv .1)
+returns-2 c = (c .before .loop .inv .0, out-all _ _ _ _ _ (c .loop-test .left) (c .before .loop .inv .1))
 
 pub order-spec : {M : Type 1} → statement M
 order-spec =

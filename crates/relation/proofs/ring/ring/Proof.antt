@@ -1,6 +1,6 @@
 -- `ring::ring` meets its contract: no way is closed, or the shortest one comes round. Assumes nothing.
 use mathlib.Core.Path.{refl}
-use Rattle.relation.specs.Ring.{Shortest}
+use native.Mathlib.Omega.{arith}
 use Rattle.relation.proofs.Walks.{edge-inside}
 use Rattle.relation.proofs.RingLaws.{ring-none, ring-some}
 use borrow.Author.Needs.{needs}
@@ -11,7 +11,7 @@ shortest-requires : tie.Need-shortest-requires
 shortest-requires c κs = search needs
 
 returns : tie.Need-returns
-returns c = ring-none _ _ (edge-inside _ (search needs)) (edge-inside _ (search needs)) _ _ (c .if1 .taken) (c .before .shortest .ensures) _ refl
+returns c = (search needs, ring-none _ _ (edge-inside _ (search needs)) (edge-inside _ (search needs)) _ _ (c .if1 .taken) (c .before .shortest .ensures) _ refl)
 
 way-requires : tie.Need-way-requires
 way-requires c κs =
@@ -27,7 +27,7 @@ turned-requires c κs = search needs
 returns-2 : tie.Need-returns-2
 returns-2 c =
     let start = c .before .before .before in
-    ring-some _ _ (edge-inside _ (search needs)) (edge-inside _ (search needs)) _ _ _ (c .before .before .if1 .left) (start .shortest .ensures) (c .before .way .ensures) _ _ (c .turned .ensures)
+    (omega (arith, c .turned .ensures .same, c .before .before .if1 .left), ring-some _ _ (edge-inside _ (search needs)) (edge-inside _ (search needs)) _ _ _ (c .before .before .if1 .left) (start .shortest .ensures) (c .before .way .ensures) _ _ (c .turned .ensures))
 
 pub ring-spec : {M : Type 1} → statement M
 ring-spec =

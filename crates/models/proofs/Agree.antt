@@ -1,0 +1,303 @@
+-- The two meanings of a term agree, and the computed verdict is the verdict.
+-- `tests` is the one induction over terms; all else is what it gives. Assumes nothing.
+use mathlib.Core.Bool.{Bool, true, false, not, _&&_, _||_}
+use mathlib.Core.List.{List, [], _∷_, List·Memᴰ}
+use mathlib.Core.Logic.{_⊎_, inl, inr, _↔_}
+use mathlib.Core.Path.{_≡_, refl, subst, fun-ext}
+use Prim.Native.Nat.{ℕ, suc}
+use native.Mathlib.Omega.{arith}
+use lib.Dec.{T, eqb, eqb→eq, eqb-refl, T-not}
+use Rattle.relation.specs.Rel.{Rel, some, diagonal}
+use Rattle.models.specs.Recording.{Recording, event, SetName, R, W, sameLocation, coStep}
+use Rattle.models.specs.Steps.{stay, step}
+use Rattle.models.specs.Graph.{Graph, Base, graph, base, Within}
+use Rattle.models.specs.Term.{Term, loc, po, rf, co, rmw, «data», addr, ctrl, casdep, ⟨_⟩, ⟨codom_⟩, _⨾_, _∪_, _∩_, _∖_, opt, _⁻¹, _⁺, ⟦_⟧, eval}
+use Rattle.models.specs.Rules.{Model, broken-pair, Rule1, Rule2, Rule3, Rule4, Rule5, Allowed, Verdict, allowed, broken1, broken2, broken3, broken4, broken5, first, unread, unordered, anywhere, failures, verdict}
+use Rattle.models.proofs.Tests.{and-intro, and-left, and-right, or-left, or-right, or-cases, T-ext, some-intro, some-witness, Tests, either-tests, both-tests, minus-tests, inverse-tests, identity-tests, codomain-tests, chain-tests, optional-tests, plus-tests}
+use Rattle.models.proofs.Sets.{initial-event, recorded-event, member-event, access-event, same-first, same-second, CoStep, linked, initially, step-cases}
+
+-- Tests and a graph that agree on what a graph consists of.
+pub record Agrees (es : List ℕ) (B : Base) (G : Graph ℕ) : Type 0 where
+  pub listed : (e : ℕ) → T (B .E e) → List·Memᴰ e es
+  pub events : (e : ℕ) → T (B .E e) ↔ G .E e
+  pub sets : (s : SetName) (e : ℕ) → T (B .set s e) ↔ G .set s e
+  pub set-events : (s : SetName) (e : ℕ) → G .set s e → T (B .E e)
+  pub loc : Tests (B .E) (B .loc) (G .loc)
+  pub po : Tests (B .E) (B .po) (G .po)
+  pub rf : Tests (B .E) (B .rf) (G .rf)
+  pub co : Tests (B .E) (B .co) (G .co)
+  pub rmw : Tests (B .E) (B .rmw) (G .rmw)
+  pub «data» : Tests (B .E) (B .«data») (G .«data»)
+  pub addr : Tests (B .E) (B .addr) (G .addr)
+  pub ctrl : Tests (B .E) (B .ctrl) (G .ctrl)
+  pub casdep : Tests (B .E) (B .casdep) (G .casdep)
+
+nonzero : (n : ℕ) → ¬ (suc n ≡ 0)
+nonzero n e = omega arith
+
+-- b passes exactly where P fails.
+abbrev pub Refutes : Bool → Type 0 → Type 0
+Refutes b P = (T b → ¬ P) × (¬ T b → P)
+
+-- Two tests of one rule are equal.
+same-test : (b c : Bool) {P : Type 0} → Refutes b P → Refutes c P → b ≡ c
+same-test true true f g = refl
+same-test true false f g = absurd (f .0 tt (g .1 (λ h. h)))
+same-test false true f g = absurd (g .0 tt (f .1 (λ h. h)))
+same-test false false f g = refl
+
+judged : {E : Type 0} (M : Model) (G : Graph E) (b₁ b₂ b₃ b₄ b₅ : Bool)
+    → Refutes b₁ (Rule1 G) → Refutes b₂ (Rule2 G) → Refutes b₃ (Rule3 M G) → Refutes b₄ (Rule4 G) → Refutes b₅ (Rule5 M G)
+    → Verdict M G (first 1 (b₁ ∷ b₂ ∷ b₃ ∷ b₄ ∷ b₅ ∷ []))
+unfolding first
+judged M G true b₂ b₃ b₄ b₅ r₁ r₂ r₃ r₄ r₅ = broken1 (r₁ .0 tt)
+judged M G false true b₃ b₄ b₅ r₁ r₂ r₃ r₄ r₅ = broken2 (r₁ .1 (λ h. h)) (r₂ .0 tt)
+judged M G false false true b₄ b₅ r₁ r₂ r₃ r₄ r₅ = broken3 (r₁ .1 (λ h. h)) (r₂ .1 (λ h. h)) (r₃ .0 tt)
+judged M G false false false true b₅ r₁ r₂ r₃ r₄ r₅ = broken4 (r₁ .1 (λ h. h)) (r₂ .1 (λ h. h)) (r₃ .1 (λ h. h)) (r₄ .0 tt)
+judged M G false false false false true r₁ r₂ r₃ r₄ r₅ = broken5 (r₁ .1 (λ h. h)) (r₂ .1 (λ h. h)) (r₃ .1 (λ h. h)) (r₄ .1 (λ h. h)) (r₅ .0 tt)
+judged M G false false false false false r₁ r₂ r₃ r₄ r₅ =
+    allowed (record { rule1 = r₁ .1 (λ h. h); rule2 = r₂ .1 (λ h. h); rule3 = r₃ .1 (λ h. h); rule4 = r₄ .1 (λ h. h); rule5 = r₅ .1 (λ h. h) })
+
+module _ (es : List ℕ) (B : Base) (G : Graph ℕ) (g : Agrees es B G) where
+  pub tests : (t : Term) → Tests (B .E) (eval es t B) (⟦ t ⟧ G)
+  unfolding eval
+  tests loc = g .loc
+  tests po = g .po
+  tests rf = g .rf
+  tests co = g .co
+  tests rmw = g .rmw
+  tests «data» = g .«data»
+  tests addr = g .addr
+  tests ctrl = g .ctrl
+  tests casdep = g .casdep
+  tests ⟨ s ⟩ = identity-tests es (B .E) (g .listed) (B .set s) (G .set s) (λ e. g .sets s e .0) (λ e. g .sets s e .1) (g .set-events s)
+  tests ⟨codom r ⟩ = codomain-tests es (B .E) (g .listed) (tests r)
+  tests (r ⨾ s) = chain-tests es (B .E) (g .listed) (tests r) (tests s)
+  tests (r ∪ s) = either-tests es (B .E) (g .listed) (tests r) (tests s)
+  tests (r ∩ s) = both-tests es (B .E) (g .listed) (tests r) (tests s)
+  tests (r ∖ s) = minus-tests es (B .E) (g .listed) (tests r) (tests s)
+  tests (opt r) = optional-tests es (B .E) (g .listed) (G .E) (λ e. g .events e .0) (λ e. g .events e .1) (tests r)
+  tests (r ⁻¹) = inverse-tests es (B .E) (g .listed) (tests r)
+  tests (r ⁺) = plus-tests es (B .E) (g .listed) (tests r)
+
+  -- Every term is decidable between any two numbers.
+  pub decides : (t : Term) (i j : ℕ) → Dec (⟦ t ⟧ G i j)
+  decides t i j = go (eval es t B i j) (tests t .to i j) (tests t .from i j)
+    where
+      go : (b : Bool) → (T b → ⟦ t ⟧ G i j) → (⟦ t ⟧ G i j → T b) → Dec (⟦ t ⟧ G i j)
+      go true f h = yes (f tt)
+      go false f h = no h
+
+  -- Terms that mean the same have one test.
+  pub eval-same : (t u : Term) → ((i j : ℕ) → ⟦ t ⟧ G i j → ⟦ u ⟧ G i j) → ((i j : ℕ) → ⟦ u ⟧ G i j → ⟦ t ⟧ G i j) → eval es t B ≡ eval es u B
+  eval-same t u f h = fun-ext λ i. fun-ext λ j. T-ext _ _ (λ k. tests u .from i j (f i j (tests t .to i j k))) (λ k. tests t .from i j (h i j (tests u .to i j k)))
+
+  -- r ; s? is r or r ; s, and r? ; s is s or r ; s.
+  pub optional-last : (r s : Term) → eval es (r ⨾ opt s) B ≡ eval es (r ∪ r ⨾ s) B
+  optional-last r s = eval-same (r ⨾ opt s) (r ∪ r ⨾ s) to from
+    where
+      to : (i j : ℕ) → ⟦ r ⨾ opt s ⟧ G i j → ⟦ r ∪ r ⨾ s ⟧ G i j
+      to i j (k, h, stay e) = inl h
+      to i j (k, h, step l) = inr (k, h, l)
+
+      from : (i j : ℕ) → ⟦ r ∪ r ⨾ s ⟧ G i j → ⟦ r ⨾ opt s ⟧ G i j
+      from i j (inl h) = (j, h, stay (g .events j .0 (tests r .target i j h)))
+      from i j (inr (k, h, l)) = (k, h, step l)
+
+  pub optional-first : (r s : Term) → eval es (opt r ⨾ s) B ≡ eval es (s ∪ r ⨾ s) B
+  optional-first r s = eval-same (opt r ⨾ s) (s ∪ r ⨾ s) to from
+    where
+      to : (i j : ℕ) → ⟦ opt r ⨾ s ⟧ G i j → ⟦ s ∪ r ⨾ s ⟧ G i j
+      to i j (k, stay e, h) = inl h
+      to i j (k, step l, h) = inr (k, l, h)
+
+      from : (i j : ℕ) → ⟦ s ∪ r ⨾ s ⟧ G i j → ⟦ opt r ⨾ s ⟧ G i j
+      from i j (inl h) = (i, stay (g .events i .0 (tests s .source i j h)), h)
+      from i j (inr (k, l, h)) = (k, step l, h)
+
+  -- Each test of a rule passes exactly where the rule fails.
+  unread-found : T (some es (unread es B)) → ¬ Rule1 G
+  unfolding unread
+  unread-found h all =
+      let x = some-witness es (unread es B) h in
+      let r = x .0 in
+      let found : Bool = some es (λ w. B .rf w r) in
+      let w = all r (g .sets R r .0 (and-left (B .set R r) (not found) (x .1))) in
+      T-not found (and-right (B .set R r) (not found) (x .1))
+      (some-intro es (λ w. B .rf w r) (g .listed (w .0) (g .rf .source (w .0) r (w .1))) (g .rf .from (w .0) r (w .1)))
+
+  unread-none : ¬ T (some es (unread es B)) → Rule1 G
+  unfolding unread
+  unread-none n r h = go (some es (λ w. B .rf w r)) (some-witness es (λ w. B .rf w r)) (λ k. n (some-intro es (unread es B) (g .listed r (g .set-events R r h)) (and-intro (B .set R r) (not (some es (λ w. B .rf w r))) (g .sets R r .1 h) k)))
+    where
+      go : (b : Bool) → (T b → (w : ℕ) × T (B .rf w r)) → ¬ T (not b) → (w : ℕ) × G .rf w r
+      go true f m = (let w = f tt in (w .0, g .rf .to (w .0) r (w .1)))
+      go false f m = absurd (m tt)
+
+  anywhere-found : (r : Rel) → T (anywhere es r) → (a b : ℕ) × T (r a b)
+  unfolding anywhere
+  anywhere-found r h =
+      let x = some-witness es (λ a. some es (r a)) h in
+      let y = some-witness es (r (x .0)) (x .1) in
+      (x .0, y .0, y .1)
+
+  anywhere-none : (r : Rel) → ¬ T (anywhere es r) → (a b : ℕ) → T (B .E a) → T (B .E b) → ¬ T (r a b)
+  unfolding anywhere
+  anywhere-none r n a b p q h = n (some-intro es (λ x. some es (r x)) (g .listed a p) (some-intro es (r a) (g .listed b q) h))
+
+  unordered-found : T (anywhere es (unordered es B)) → ¬ Rule2 G
+  unfolding unordered
+  unordered-found h total =
+      let x = anywhere-found (unordered es B) h in
+      let a = x .0 in
+      let b = x .1 in
+      let writes : Bool = B .set W a && B .set W b && B .loc a b in
+      let ordered : Bool = eqb a b || B .co a b || B .co b a in
+      let p : T writes = and-left writes (not ordered) (x .2) in
+      let n : ¬ T ordered = T-not ordered (and-right writes (not ordered) (x .2)) in
+      let ww : T (B .set W a && B .set W b) = and-left (B .set W a && B .set W b) (B .loc a b) p in
+      elim (total a b (g .sets W a .0 (and-left (B .set W a) (B .set W b) ww)) (g .sets W b .0 (and-right (B .set W a) (B .set W b) ww)) (g .loc .to a b (and-right (B .set W a && B .set W b) (B .loc a b) p)) (λ e. n (or-left (eqb a b || B .co a b) (B .co b a) (or-left (eqb a b) (B .co a b) (subst (λ c. T (eqb a c)) e (eqb-refl a)))))) [
+        | inl c ↦ n (or-left (eqb a b || B .co a b) (B .co b a) (or-right (eqb a b) (B .co a b) (g .co .from a b c)))
+        | inr c ↦ n (or-right (eqb a b || B .co a b) (B .co b a) (g .co .from b a c))
+      ]
+
+  unordered-none : ¬ T (anywhere es (unordered es B)) → Rule2 G
+  unfolding unordered
+  unordered-none n a b p q l d =
+      go (eqb a b || B .co a b || B .co b a) (λ k. k) (λ k. anywhere-none (unordered es B) n a b (g .set-events W a p) (g .set-events W b q) (and-intro (B .set W a && B .set W b && B .loc a b) (not (eqb a b || B .co a b || B .co b a)) (and-intro (B .set W a && B .set W b) (B .loc a b) (and-intro (B .set W a) (B .set W b) (g .sets W a .1 p) (g .sets W b .1 q)) (g .loc .from a b l)) k))
+    where
+      co-of : T (eqb a b || B .co a b) ⊎ T (B .co b a) → G .co a b ⊎ G .co b a
+      co-of (inl k) = elim (or-cases (eqb a b) (B .co a b) k) [ inl e ↦ absurd (d (eqb→eq a b e)) | inr c ↦ inl (g .co .to a b c) ]
+      co-of (inr k) = inr (g .co .to b a k)
+
+      go : (b′ : Bool) → (T b′ → T (eqb a b || B .co a b || B .co b a)) → ¬ T (not b′) → G .co a b ⊎ G .co b a
+      go true f m = co-of (or-cases (eqb a b || B .co a b) (B .co b a) (f tt))
+      go false f m = absurd (m tt)
+
+  -- A term that relates an event to itself, or two events.
+  loop-found : (t : Term) → T (some es (diagonal (eval es t B))) → ¬ ((a : ℕ) → ¬ ⟦ t ⟧ G a a)
+  unfolding diagonal
+  loop-found t h n = (let x = some-witness es (diagonal (eval es t B)) h in n (x .0) (tests t .to (x .0) (x .0) (x .1)))
+
+  loop-none : (t : Term) → ¬ T (some es (diagonal (eval es t B))) → (a : ℕ) → ¬ ⟦ t ⟧ G a a
+  unfolding diagonal
+  loop-none t n a h = n (some-intro es (diagonal (eval es t B)) (g .listed a (tests t .source a a h)) (tests t .from a a h))
+
+  edge-found : (t : Term) → T (anywhere es (eval es t B)) → ¬ ((a b : ℕ) → ¬ ⟦ t ⟧ G a b)
+  edge-found t h n = (let x = anywhere-found (eval es t B) h in n (x .0) (x .1) (tests t .to (x .0) (x .1) (x .2)))
+
+  edge-none : (t : Term) → ¬ T (anywhere es (eval es t B)) → (a b : ℕ) → ¬ ⟦ t ⟧ G a b
+  edge-none t n a b h = anywhere-none (eval es t B) n a b (tests t .source a b h) (tests t .target a b h) (tests t .from a b h)
+
+  pub refutes-1 : Refutes (some es (unread es B)) (Rule1 G)
+  refutes-1 = (unread-found, unread-none)
+
+  pub refutes-2 : Refutes (anywhere es (unordered es B)) (Rule2 G)
+  refutes-2 = (unordered-found, unordered-none)
+
+  pub refutes-loop : (t : Term) → Refutes (some es (diagonal (eval es t B))) ((a : ℕ) → ¬ ⟦ t ⟧ G a a)
+  refutes-loop t = (loop-found t, loop-none t)
+
+  pub refutes-4 : Refutes (anywhere es (eval es broken-pair B)) (Rule4 G)
+  refutes-4 = (edge-found broken-pair, edge-none broken-pair)
+
+  -- The computed verdict is the verdict.
+  pub verdict-holds : (M : Model) → Verdict M G (verdict es B M)
+  unfolding verdict failures
+  verdict-holds M = judged M G _ _ _ _ _ refutes-1 refutes-2 (refutes-loop (M .coherent)) refutes-4 (refutes-loop (M .order ⁺))
+
+-- Verdict 0 is: allowed.
+pub allowed-exactly : {E : Type 0} {M : Model} {G : Graph E} {n : ℕ} → Verdict M G n → (n ≡ 0) ↔ Allowed M G
+allowed-exactly (allowed a) = (λ e. a, λ b. refl)
+allowed-exactly (broken1 x) = (λ e. absurd (nonzero 0 e), λ b. absurd (x (b .rule1)))
+allowed-exactly (broken2 p x) = (λ e. absurd (nonzero 1 e), λ b. absurd (x (b .rule2)))
+allowed-exactly (broken3 p q x) = (λ e. absurd (nonzero 2 e), λ b. absurd (x (b .rule3)))
+allowed-exactly (broken4 p q s x) = (λ e. absurd (nonzero 3 e), λ b. absurd (x (b .rule4)))
+allowed-exactly (broken5 p q s t x) = (λ e. absurd (nonzero 4 e), λ b. absurd (x (b .rule5)))
+
+-- The tests and the graph of a recording agree.
+module _ (es : List ℕ) (r : Recording ℕ) (w : Within es r) where
+  -- A Bool-valued relation between events tests itself.
+  itself : (t : Rel) → ((a b : ℕ) → T (t a b) → T (event r a)) → ((a b : ℕ) → T (t a b) → T (event r b)) → Tests (event r) t (λ a b. T (t a b))
+  itself t f g = record { to = λ i j h. h; from = λ i j h. h; source = f; target = g }
+
+  link-tests : (t : ℕ) → Tests (event r) (r .link t) (λ a b. T (r .link t a b))
+  link-tests t = itself (r .link t) (w .link-source t) (w .link-target t)
+
+  location-source : (a b : ℕ) → T (sameLocation r a b) → T (event r a)
+  location-source a b h = access-event r a (same-first r a b h)
+
+  location-target : (a b : ℕ) → T (sameLocation r a b) → T (event r b)
+  location-target a b h = access-event r b (same-second r a b h)
+
+  initial-tests : Tests (event r) (λ a b. r .initial a && r .recorded b) (λ a b. T (r .initial a) × T (r .recorded b))
+  unfolding event
+  initial-tests = record {
+    to = λ i j h. (and-left (r .initial i) (r .recorded j) h, and-right (r .initial i) (r .recorded j) h);
+    from = λ i j h. and-intro (r .initial i) (r .recorded j) (h .0) (h .1);
+    source = λ i j h. or-left (r .initial i) (r .recorded i) (h .0);
+    target = λ i j h. or-right (r .initial j) (r .recorded j) (h .1);
+  }
+
+  po-tests : Tests (event r) (base es r .po) (graph r .po)
+  unfolding base
+  po-tests = either-tests es (event r) (w .listed) initial-tests (plus-tests es (event r) (w .listed) (itself (r .next) (w .next-source) (w .next-target)))
+
+  step-source : (a b : ℕ) → CoStep r a b → T (event r a)
+  step-source a b (linked h) = w .link-source 2 a b h
+  step-source a b (initially i c x l) = initial-event r a i
+
+  step-target : (a b : ℕ) → CoStep r a b → T (event r b)
+  step-target a b (linked h) = w .link-target 2 a b h
+  step-target a b (initially i c x l) = recorded-event r b c
+
+  step-tests : Tests (event r) (coStep r) (λ a b. T (coStep r a b))
+  step-tests = itself (coStep r) (λ a b h. step-source a b (step-cases r a b h)) (λ a b h. step-target a b (step-cases r a b h))
+
+  pub agrees : Agrees es (base es r) (graph r)
+  unfolding base
+  agrees = record {
+    listed = w .listed;
+    events = λ e. (λ h. h, λ h. h);
+    sets = λ s e. (λ h. h, λ h. h);
+    set-events = member-event r;
+    loc = itself (sameLocation r) location-source location-target;
+    po = po-tests;
+    rf = link-tests 1;
+    co = plus-tests es (event r) (w .listed) step-tests;
+    rmw = link-tests 3;
+    «data» = link-tests 4;
+    addr = link-tests 5;
+    ctrl = chain-tests es (event r) (w .listed) (link-tests 6) (optional-tests es (event r) (w .listed) (λ e. T (event r e)) (λ e h. h) (λ e h. h) po-tests);
+    casdep = link-tests 7;
+  }
+
+  -- Program order is decidable.
+  pub po-decides : (a b : ℕ) → Dec (graph r .po a b)
+  po-decides = decides es (base es r) (graph r) agrees po
+
+  -- The verdict of a recording.
+  pub recording-verdict : (M : Model) → Verdict M (graph r) (verdict es (base es r) M)
+  recording-verdict = verdict-holds es (base es r) (graph r) agrees
+
+  pub recording-allowed : (M : Model) → (verdict es (base es r) M ≡ 0) ↔ Allowed M (graph r)
+  recording-allowed M = allowed-exactly (recording-verdict M)
+
+-- Over any two lists that hold all events a term has one test, and a model one verdict.
+module _ (es fs : List ℕ) (r : Recording ℕ) (v : Within es r) (w : Within fs r) where
+  pub eval-relist : (t : Term) → eval es t (base es r) ≡ eval fs t (base fs r)
+  eval-relist t = fun-ext λ i. fun-ext λ j. T-ext _ _
+      (λ h. tests fs _ _ (agrees fs r w) t .from i j (tests es _ _ (agrees es r v) t .to i j h))
+      (λ h. tests es _ _ (agrees es r v) t .from i j (tests fs _ _ (agrees fs r w) t .to i j h))
+
+  pub verdict-relist : (M : Model) → verdict es (base es r) M ≡ verdict fs (base fs r) M
+  unfolding verdict failures
+  verdict-relist M =
+      let f = agrees es r v in
+      let g = agrees fs r w in
+      let p₁ = same-test _ _ (refutes-1 es _ _ f) (refutes-1 fs _ _ g) in
+      let p₂ = same-test _ _ (refutes-2 es _ _ f) (refutes-2 fs _ _ g) in
+      let p₃ = same-test _ _ (refutes-loop es _ _ f (M .coherent)) (refutes-loop fs _ _ g (M .coherent)) in
+      let p₄ = same-test _ _ (refutes-4 es _ _ f) (refutes-4 fs _ _ g) in
+      let p₅ = same-test _ _ (refutes-loop es _ _ f (M .order ⁺)) (refutes-loop fs _ _ g (M .order ⁺)) in
+      λ i. first 1 (p₁ i ∷ p₂ i ∷ p₃ i ∷ p₄ i ∷ p₅ i ∷ [])

@@ -1,0 +1,215 @@
+-- The sets of a recording: what it is to be in each, and how they lie in one another. Assumes nothing.
+use mathlib.Core.Bool.{Bool, _&&_, _||_}
+use mathlib.Core.Logic.{_⊎_, inl, inr}
+use mathlib.Core.Path.{_≡_, subst}
+use Prim.Native.Nat.{ℕ}
+use native.Mathlib.Omega.{arith}
+use lib.Dec.{T, eqb, eqb→eq, eqb-refl}
+use Rattle.models.specs.Recording.{Recording, event, read, write, fence, acquireRead, exclusiveRead, releaseWrite, strongWrite, fenceOf, acquireFence, releaseFence, access, sameLocation, coStep, SetName, R, W, F, Racq, Rex, Wrel, Wstrong, Facq, Frel, Fsc, Fld, Fsy, member}
+use Rattle.models.proofs.Tests.{and-intro, and-left, and-right, or-left, or-right, or-cases}
+
+pub eq-test : (m n : ℕ) → m ≡ n → T (eqb m n)
+eq-test m n p = subst (λ x. T (eqb m x)) p (eqb-refl m)
+
+-- A test with an equation beside it.
+pub with-eq : (b : Bool) (m n : ℕ) → T b → m ≡ n → T (b && eqb m n)
+with-eq b m n h p = and-intro b (eqb m n) h (eq-test m n p)
+
+module _ {E : Type 0} (r : Recording E) where
+  pub initial-event : (e : E) → T (r .initial e) → T (event r e)
+  unfolding event
+  initial-event e h = or-left (r .initial e) (r .recorded e) h
+
+  pub recorded-event : (e : E) → T (r .recorded e) → T (event r e)
+  unfolding event
+  recorded-event e h = or-right (r .initial e) (r .recorded e) h
+
+  pub event-cases : (e : E) → T (event r e) → T (r .initial e) ⊎ T (r .recorded e)
+  unfolding event
+  event-cases e h = or-cases (r .initial e) (r .recorded e) h
+
+  -- Reads, writes and fences: events of a class.
+  pub read-event : (e : E) → T (read r e) → T (event r e)
+  unfolding read
+  read-event e h = and-left (event r e) (eqb (r .class e) 1) h
+
+  pub read-class : (e : E) → T (read r e) → r .class e ≡ 1
+  unfolding read
+  read-class e h = eqb→eq (r .class e) 1 (and-right (event r e) (eqb (r .class e) 1) h)
+
+  pub read-intro : (e : E) → T (event r e) → r .class e ≡ 1 → T (read r e)
+  unfolding read
+  read-intro e h p = with-eq (event r e) (r .class e) 1 h p
+
+  pub write-event : (e : E) → T (write r e) → T (event r e)
+  unfolding write
+  write-event e h = and-left (event r e) (eqb (r .class e) 2) h
+
+  pub write-class : (e : E) → T (write r e) → r .class e ≡ 2
+  unfolding write
+  write-class e h = eqb→eq (r .class e) 2 (and-right (event r e) (eqb (r .class e) 2) h)
+
+  pub write-intro : (e : E) → T (event r e) → r .class e ≡ 2 → T (write r e)
+  unfolding write
+  write-intro e h p = with-eq (event r e) (r .class e) 2 h p
+
+  pub fence-event : (e : E) → T (fence r e) → T (event r e)
+  unfolding fence
+  fence-event e h = and-left (event r e) (eqb (r .class e) 3) h
+
+  pub fence-class : (e : E) → T (fence r e) → r .class e ≡ 3
+  unfolding fence
+  fence-class e h = eqb→eq (r .class e) 3 (and-right (event r e) (eqb (r .class e) 3) h)
+
+  pub fence-intro : (e : E) → T (event r e) → r .class e ≡ 3 → T (fence r e)
+  unfolding fence
+  fence-intro e h p = with-eq (event r e) (r .class e) 3 h p
+
+  -- Their kinds by mode and flag.
+  pub acquire-read : (e : E) → T (acquireRead r e) → T (read r e)
+  unfolding acquireRead
+  acquire-read e h = and-left (read r e) (eqb (r .mode e) 1) h
+
+  pub acquire-mode : (e : E) → T (acquireRead r e) → r .mode e ≡ 1
+  unfolding acquireRead
+  acquire-mode e h = eqb→eq (r .mode e) 1 (and-right (read r e) (eqb (r .mode e) 1) h)
+
+  pub acquire-intro : (e : E) → T (read r e) → r .mode e ≡ 1 → T (acquireRead r e)
+  unfolding acquireRead
+  acquire-intro e h p = with-eq (read r e) (r .mode e) 1 h p
+
+  pub exclusive-read : (e : E) → T (exclusiveRead r e) → T (read r e)
+  unfolding exclusiveRead
+  exclusive-read e h = and-left (read r e) (eqb (r .flag e) 1) h
+
+  pub exclusive-flag : (e : E) → T (exclusiveRead r e) → r .flag e ≡ 1
+  unfolding exclusiveRead
+  exclusive-flag e h = eqb→eq (r .flag e) 1 (and-right (read r e) (eqb (r .flag e) 1) h)
+
+  pub exclusive-intro : (e : E) → T (read r e) → r .flag e ≡ 1 → T (exclusiveRead r e)
+  unfolding exclusiveRead
+  exclusive-intro e h p = with-eq (read r e) (r .flag e) 1 h p
+
+  pub release-write : (e : E) → T (releaseWrite r e) → T (write r e)
+  unfolding releaseWrite
+  release-write e h = and-left (write r e) (eqb (r .mode e) 2) h
+
+  pub release-mode : (e : E) → T (releaseWrite r e) → r .mode e ≡ 2
+  unfolding releaseWrite
+  release-mode e h = eqb→eq (r .mode e) 2 (and-right (write r e) (eqb (r .mode e) 2) h)
+
+  pub release-intro : (e : E) → T (write r e) → r .mode e ≡ 2 → T (releaseWrite r e)
+  unfolding releaseWrite
+  release-intro e h p = with-eq (write r e) (r .mode e) 2 h p
+
+  pub strong-write : (e : E) → T (strongWrite r e) → T (write r e)
+  unfolding strongWrite
+  strong-write e h = and-left (write r e) (eqb (r .flag e) 1) h
+
+  pub strong-flag : (e : E) → T (strongWrite r e) → r .flag e ≡ 1
+  unfolding strongWrite
+  strong-flag e h = eqb→eq (r .flag e) 1 (and-right (write r e) (eqb (r .flag e) 1) h)
+
+  pub mode-fence : (m : ℕ) (e : E) → T (fenceOf r m e) → T (fence r e)
+  unfolding fenceOf
+  mode-fence m e h = and-left (fence r e) (eqb (r .mode e) m) h
+
+  pub mode-of : (m : ℕ) (e : E) → T (fenceOf r m e) → r .mode e ≡ m
+  unfolding fenceOf
+  mode-of m e h = eqb→eq (r .mode e) m (and-right (fence r e) (eqb (r .mode e) m) h)
+
+  pub mode-intro : (m : ℕ) (e : E) → T (fence r e) → r .mode e ≡ m → T (fenceOf r m e)
+  unfolding fenceOf
+  mode-intro m e h p = with-eq (fence r e) (r .mode e) m h p
+
+  modes-fence : (l m n : ℕ) (e : E) → T (fenceOf r l e || fenceOf r m e || fenceOf r n e) → T (fence r e)
+  modes-fence l m n e h = elim (or-cases (fenceOf r l e || fenceOf r m e) (fenceOf r n e) h) [
+    | inl k ↦ elim (or-cases (fenceOf r l e) (fenceOf r m e) k) [ inl x ↦ mode-fence l e x | inr x ↦ mode-fence m e x ]
+    | inr k ↦ mode-fence n e k
+  ]
+
+  pub acquire-fence : (e : E) → T (acquireFence r e) → T (fence r e)
+  unfolding acquireFence
+  acquire-fence e h = modes-fence 1 3 4 e h
+
+  pub release-fence : (e : E) → T (releaseFence r e) → T (fence r e)
+  unfolding releaseFence
+  release-fence e h = modes-fence 2 3 4 e h
+
+  -- A release fence is not of mode 1.
+  pub release-fence-mode : (e : E) → T (releaseFence r e) → r .mode e ≡ 1 → ⊥
+  unfolding releaseFence
+  release-fence-mode e h p = elim (or-cases (fenceOf r 2 e || fenceOf r 3 e) (fenceOf r 4 e) h) [
+    | inl k ↦ elim (or-cases (fenceOf r 2 e) (fenceOf r 3 e) k) [ inl x ↦ omega (arith, mode-of 2 e x) | inr x ↦ omega (arith, mode-of 3 e x) ]
+    | inr k ↦ omega (arith, mode-of 4 e k)
+  ]
+
+  pub sc-release : (e : E) → T (fenceOf r 4 e) → T (releaseFence r e)
+  unfolding releaseFence
+  sc-release e h = or-right (fenceOf r 2 e || fenceOf r 3 e) (fenceOf r 4 e) h
+
+  pub member-event : (s : SetName) (e : E) → T (member r s e) → T (event r e)
+  member-event R e h = read-event e h
+  member-event W e h = write-event e h
+  member-event F e h = fence-event e h
+  member-event Racq e h = read-event e (acquire-read e h)
+  member-event Rex e h = read-event e (exclusive-read e h)
+  member-event Wrel e h = write-event e (release-write e h)
+  member-event Wstrong e h = write-event e (strong-write e h)
+  member-event Facq e h = fence-event e (acquire-fence e h)
+  member-event Frel e h = fence-event e (release-fence e h)
+  member-event Fsc e h = fence-event e (mode-fence 4 e h)
+  member-event Fld e h = fence-event e (mode-fence 5 e h)
+  member-event Fsy e h = fence-event e (mode-fence 6 e h)
+
+  -- Accesses and locations.
+  pub access-cases : (e : E) → T (access r e) → T (read r e) ⊎ T (write r e)
+  unfolding access
+  access-cases e h = or-cases (read r e) (write r e) h
+
+  pub read-access : (e : E) → T (read r e) → T (access r e)
+  unfolding access
+  read-access e h = or-left (read r e) (write r e) h
+
+  pub write-access : (e : E) → T (write r e) → T (access r e)
+  unfolding access
+  write-access e h = or-right (read r e) (write r e) h
+
+  pub access-event : (e : E) → T (access r e) → T (event r e)
+  access-event e h = elim (access-cases e h) [ inl k ↦ read-event e k | inr k ↦ write-event e k ]
+
+  pub same-intro : (a b : E) → T (access r a) → T (access r b) → r .location a ≡ r .location b → T (sameLocation r a b)
+  unfolding sameLocation
+  same-intro a b h k p = with-eq (access r a && access r b) (r .location a) (r .location b) (and-intro (access r a) (access r b) h k) p
+
+  pub same-first : (a b : E) → T (sameLocation r a b) → T (access r a)
+  unfolding sameLocation
+  same-first a b h = and-left (access r a) (access r b) (and-left (access r a && access r b) (eqb (r .location a) (r .location b)) h)
+
+  pub same-second : (a b : E) → T (sameLocation r a b) → T (access r b)
+  unfolding sameLocation
+  same-second a b h = and-right (access r a) (access r b) (and-left (access r a && access r b) (eqb (r .location a) (r .location b)) h)
+
+  pub same-location : (a b : E) → T (sameLocation r a b) → r .location a ≡ r .location b
+  unfolding sameLocation
+  same-location a b h = eqb→eq (r .location a) (r .location b) (and-right (access r a && access r b) (eqb (r .location a) (r .location b)) h)
+
+  -- A step of co: a link, or an initial write before a recorded one of its location.
+  pub data CoStep (a b : E) : Type 0 where
+    linked : T (r .link 2 a b) → CoStep a b
+    initially : T (r .initial a) → T (r .recorded b) → T (write r b) → T (sameLocation r a b) → CoStep a b
+
+  pub step-cases : (a b : E) → T (coStep r a b) → CoStep a b
+  unfolding coStep
+  step-cases a b h = elim (or-cases (r .link 2 a b) (r .initial a && r .recorded b && write r b && sameLocation r a b) h) [
+    | inl k ↦ linked k
+    | inr k ↦ (let l = and-left (r .initial a && r .recorded b && write r b) (sameLocation r a b) k in let i = and-left (r .initial a && r .recorded b) (write r b) l in
+        initially (and-left (r .initial a) (r .recorded b) i) (and-right (r .initial a) (r .recorded b) i) (and-right (r .initial a && r .recorded b) (write r b) l) (and-right (r .initial a && r .recorded b && write r b) (sameLocation r a b) k))
+  ]
+
+  pub step-intro : (a b : E) → CoStep a b → T (coStep r a b)
+  unfolding coStep
+  step-intro a b (linked h) = or-left (r .link 2 a b) (r .initial a && r .recorded b && write r b && sameLocation r a b) h
+  step-intro a b (initially i c w l) =
+      or-right (r .link 2 a b) (r .initial a && r .recorded b && write r b && sameLocation r a b)
+      (and-intro (r .initial a && r .recorded b && write r b) (sameLocation r a b) (and-intro (r .initial a && r .recorded b) (write r b) (and-intro (r .initial a) (r .recorded b) i c) w) l)

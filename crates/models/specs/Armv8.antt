@@ -1,0 +1,27 @@
+-- ARMv8 (003, section 4.2 and appendix C), in the paper's order and names. R^Q is Racq, W^L is Wrel, and W^ex, the writes of rmw pairs, is codom(rmw). Assumes nothing.
+use Rattle.models.specs.Recording.{R, W, Racq, Wrel, Fld, Fsy}
+use Rattle.models.specs.Term.{Term, po, rf, co, rmw, «data», addr, ctrl, ⟨_⟩, ⟨codom_⟩, _⨾_, _∪_, opt, po-loc, fr, rfₑ, rfᵢ, coₑ, coᵢ, frₑ}
+
+-- observed-by
+abbrev pub obs : Term
+obs = rfₑ ∪ frₑ ∪ coₑ
+
+-- dependency-ordered-before
+abbrev pub dob : Term
+dob = (addr ∪ «data») ⨾ opt rfᵢ ∪ (ctrl ∪ «data») ⨾ ⟨ W ⟩ ⨾ opt coᵢ ∪ addr ⨾ po ⨾ ⟨ W ⟩
+
+-- atomic-ordered-before
+abbrev pub aob : Term
+aob = rmw ∪ ⟨codom rmw ⟩ ⨾ rfᵢ ⨾ ⟨ Racq ⟩
+
+-- barrier-ordered-before. The last part is 01's and ARM's; appendix C shows only what the mapping needs (003, footnote 8).
+abbrev pub bob : Term
+bob = po ⨾ ⟨ Fsy ⟩ ⨾ po ∪ ⟨ R ⟩ ⨾ po ⨾ ⟨ Fld ⟩ ⨾ po ∪ ⟨ Racq ⟩ ⨾ po ∪ po ⨾ ⟨ Wrel ⟩ ⨾ opt coᵢ ∪ ⟨ Wrel ⟩ ⨾ po ⨾ ⟨ Racq ⟩
+
+-- ordered-before
+abbrev pub ob : Term
+ob = obs ∪ dob ∪ aob ∪ bob
+
+-- what rule 3, SC-per-location, speaks of
+abbrev pub scPerLoc : Term
+scPerLoc = po-loc ∪ rf ∪ fr ∪ co

@@ -1,0 +1,10 @@
+-- The memory models: recordings, execution graphs, relational terms, IMM, ARMv8 and their rules.
+pub mod Recording
+pub mod Steps
+pub mod Graph
+pub mod Term
+pub mod Imm
+pub mod Armv8
+pub mod Rules
+pub mod Loads
+pub mod Translated

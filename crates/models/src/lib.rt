@@ -1,0 +1,1 @@
+// The memory models: no code, only definitions and theorems.

@@ -1,0 +1,95 @@
+-- Laws of reading a file: each test and field of the code is that of its definition. Assumes nothing.
+use mathlib.Core.Path.{_≡_, refl, sym, ap, _∙_}
+use mathlib.Core.Bool.{Bool, true, false, _&&_, _||_, false≢true}
+use mathlib.Core.List.{List}
+use Prim.Native.Nat.{ℕ, _+_, _-_, _*_, _<_, _≤_}
+use native.Mathlib.Omega.{arith}
+use borrow.Author.Tests.{le-leb, lt-leb, leb-true}
+use lib.Dec.{leb, ltb, eqb}
+use Rattle.relation.proofs.Meaning.{and-left, and-right}
+use Rattle.recording.specs.Layout.{byte, events, eventByte, firstInitial, locations}
+use Rattle.recording.specs.Decode.{isRecorded, isInitial, recordOr, fieldOr, decode}
+
+-- A test by `&&` or `||` in the code, from the tests on its two sides.
+pub and-yes : (a b s t : Bool) → a ≡ s → a ≡ true → b ≡ t → b ≡ s && t
+and-yes a b s t p q e = e ∙ ap (λ (x : Bool). x && t) (sym q ∙ p)
+
+pub and-no : (a s t : Bool) → a ≡ s → a ≡ false → a ≡ s && t
+and-no a s t p q = q ∙ ap (λ (x : Bool). x && t) (sym q ∙ p)
+
+pub or-yes : (a s t : Bool) → a ≡ s → a ≡ true → a ≡ s || t
+or-yes a s t p q = q ∙ ap (λ (x : Bool). x || t) (sym q ∙ p)
+
+pub or-no : (a b s t : Bool) → a ≡ s → a ≡ false → b ≡ t → b ≡ s || t
+or-no a b s t p q e = e ∙ ap (λ (x : Bool). x || t) (sym q ∙ p)
+
+pub is-number : (k a b : ℕ) → a ≡ b → eqb a k ≡ eqb b k
+is-number k a b p = ap (λ (x : ℕ). eqb x k) p
+
+-- Recorded events.
+pub recorded-yes : (f : List ℕ) (e n : ℕ) → n ≡ events f → 1 ≤ e → leb e n ≡ isRecorded f e
+unfolding isRecorded
+recorded-yes f e n p h = and-yes true (leb e n) (leb 1 e) (leb e (events f)) (sym (le-leb 1 e h)) refl (ap (leb e) p)
+
+pub recorded-no : (f : List ℕ) (e : ℕ) → e < 1 → leb 1 e ≡ isRecorded f e
+unfolding isRecorded
+recorded-no f e h = and-no (leb 1 e) (leb 1 e) (leb e (events f)) refl (lt-leb 1 e h)
+
+pub recorded-bounds : (f : List ℕ) (e : ℕ) → isRecorded f e ≡ true → (1 ≤ e) × (e ≤ events f)
+unfolding isRecorded
+recorded-bounds f e p =
+    (leb-true 1 e (and-left (leb 1 e) (leb e (events f)) p), leb-true e (events f) (and-right (leb 1 e) (leb e (events f)) p))
+
+pub recorded-is : (f : List ℕ) (e : ℕ) → 1 ≤ e → e ≤ events f → isRecorded f e ≡ true
+recorded-is f e h g = sym (recorded-yes f e (events f) refl h) ∙ le-leb e (events f) g
+
+-- Initial writes.
+pub initial-yes : (f : List ℕ) (e : ℕ) → 56 ≤ e → ltb e (56 + locations f) ≡ isInitial f e
+unfolding isInitial
+initial-yes f e h = and-yes true (ltb e (56 + locations f)) (leb 56 e) (ltb e (56 + locations f)) (sym (le-leb 56 e h)) refl refl
+
+pub initial-no : (f : List ℕ) (e : ℕ) → e < 56 → leb 56 e ≡ isInitial f e
+unfolding isInitial
+initial-no f e h = and-no (leb 56 e) (leb 56 e) (ltb e (56 + locations f)) refl (lt-leb 56 e h)
+
+-- Fields, by the three cases of `recordOr`.
+module _ (f : List ℕ) (given recorded : ℕ → ℕ) (e : ℕ) where
+  pub record-initial : 56 ≤ e → given e ≡ recordOr f given recorded e
+  unfolding recordOr
+  record-initial h = rw (le-leb 56 e h, recordOr)
+
+  pub record-recorded : e < 56 → isRecorded f e ≡ true → recorded e ≡ recordOr f given recorded e
+  unfolding recordOr
+  record-recorded h p = rw (lt-leb 56 e h, recordOr) (rw p)
+
+  pub record-none : e < 56 → isRecorded f e ≡ false → 0 ≡ recordOr f given recorded e
+  unfolding recordOr
+  record-none h p = rw (lt-leb 56 e h, recordOr) (rw p)
+
+pub field-initial : (f : List ℕ) (k given e : ℕ) → 56 ≤ e → given ≡ fieldOr f k given e
+unfolding fieldOr
+field-initial f k given e = record-initial f (λ x. given) (λ x. eventByte f x k) e
+
+pub field-recorded : (f : List ℕ) (k given e b : ℕ) → e < 56 → b ≡ eventByte f e k → isRecorded f e ≡ true → b ≡ fieldOr f k given e
+unfolding fieldOr
+field-recorded f k given e b h p q = p ∙ record-recorded f (λ x. given) (λ x. eventByte f x k) e h q
+
+pub field-none : (f : List ℕ) (k given e : ℕ) → e < 56 → isRecorded f e ≡ false → 0 ≡ fieldOr f k given e
+unfolding fieldOr
+field-none f k given e = record-none f (λ x. given) (λ x. eventByte f x k) e
+
+pub location-initial : (f : List ℕ) (e : ℕ) → 56 ≤ e → e - 56 ≡ decode f .location e
+unfolding decode
+location-initial f e h = record-initial f (λ x. x - firstInitial) (λ x. eventByte f x 4) e h
+
+-- Below 56 what an initial write would have does not matter.
+pub location-recorded : (f : List ℕ) (e b : ℕ) → e < 56 → b ≡ fieldOr f 4 0 e → b ≡ decode f .location e
+unfolding decode fieldOr
+location-recorded f e b h p = p ∙ same (isRecorded f e) refl
+  where
+    here : ℕ → ℕ
+    here x = eventByte f x 4
+
+    same : (c : Bool) → isRecorded f e ≡ c → recordOr f (λ x. 0) here e ≡ recordOr f (λ x. x - firstInitial) here e
+    same true q = sym (record-recorded f (λ x. 0) here e h q) ∙ record-recorded f (λ x. x - firstInitial) here e h q
+    same false q = sym (record-none f (λ x. 0) here e h q) ∙ record-none f (λ x. x - firstInitial) here e h q

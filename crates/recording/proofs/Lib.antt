@@ -1,0 +1,2 @@
+-- Laws that the proofs of `recording` share, and its theorems.
+pub mod FieldLaws

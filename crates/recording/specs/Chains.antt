@@ -1,0 +1,73 @@
+-- Chains: events on thread chains and links on event chains (01, "The recording"; causes 6 and 7). Assumes nothing.
+use mathlib.Core.Bool.{Bool, true, false, _&&_, _||_, not}
+use mathlib.Core.List.{List, [], _∷_, _++_}
+use Prim.Native.Nat.{ℕ, zero, suc, _+_, _-_, _*_}
+use lib.Dec.{eqb, leb}
+use Rattle.recording.specs.Layout.{byte, events, links, headerSize, eventSize, linkSize, linkStart, threads}
+
+-- Whether x stands in the list.
+unfoldable pub among : ℕ → List ℕ → Bool
+among x [] = false
+among x (y ∷ ys) = eqb x y || among x ys
+
+-- The numbers met on the chain from x: x and what follows it, until 0, or past a number over the limit.
+-- After limit + 1 numbers one is over the limit or met twice, so no more are followed.
+unfoldable pub follow : ℕ → (ℕ → ℕ) → ℕ → ℕ → List ℕ
+follow limit next zero x = []
+follow limit next (suc n) x =
+    elim (eqb x 0) [ true ↦ [] | false ↦ x ∷ elim (leb x limit) [ true ↦ follow limit next n (next x) | false ↦ [] ] ]
+
+abbrev pub chain : ℕ → (ℕ → ℕ) → ℕ → List ℕ
+chain limit next x = follow limit next (suc limit) x
+
+-- The numbers met on the chains from n starts, one after the other.
+unfoldable pub met : ℕ → (ℕ → ℕ) → (ℕ → ℕ) → ℕ → List ℕ
+met limit next start zero = []
+met limit next start (suc n) = met limit next start n ++ chain limit next (start n)
+
+-- Each number is at most the limit, and none was met before.
+unfoldable pub fresh : ℕ → List ℕ → List ℕ → Bool
+fresh limit seen [] = true
+fresh limit seen (x ∷ xs) = (leb x limit && not (among x seen)) && fresh limit (x ∷ seen) xs
+
+-- Every number from 1 to n is met.
+unfoldable pub allMet : ℕ → List ℕ → Bool
+allMet zero l = true
+allMet (suc n) l = allMet n l && among (suc n) l
+
+-- No index over the limit, nothing met twice or never.
+unfoldable pub onceEach : ℕ → List ℕ → Bool
+onceEach limit l = fresh limit [] l && allMet limit l
+
+-- Record x of those that begin at place `from` and are `size` bytes long; its first byte is the number that follows on its chain.
+unfoldable pub nextOf : List ℕ → ℕ → ℕ → ℕ → ℕ
+nextOf f from size x = byte f (from + size * (x - 1))
+
+-- The start of chain j (from 0) of those whose starts stand at place `from` and each `size` bytes on.
+unfoldable pub startOf : List ℕ → ℕ → ℕ → ℕ → ℕ
+startOf f from size j = byte f (from + size * j)
+
+-- The next event of the thread, and the head of thread t.
+abbrev pub nextEvent : List ℕ → ℕ → ℕ
+nextEvent f = nextOf f headerSize eventSize
+
+abbrev pub head : List ℕ → ℕ → ℕ
+head f = startOf f 4 1
+
+-- The next link into the same event, and the first link into event j + 1.
+abbrev pub nextLink : List ℕ → ℕ → ℕ
+nextLink f = nextOf f (linkStart f) linkSize
+
+abbrev pub firstLink : List ℕ → ℕ → ℕ
+firstLink f = startOf f 15 eventSize
+
+-- Cause 6's and cause 7's opposites.
+abbrev pub threadsSound : List ℕ → Bool
+threadsSound f = onceEach (events f) (met (events f) (nextEvent f) (head f) threads)
+
+abbrev pub linksSound : List ℕ → Bool
+linksSound f = onceEach (links f) (met (links f) (nextLink f) (firstLink f) (events f))
+
+-- The links into event b.
+abbrev pub linksInto : List ℕ → ℕ → List ℕ
+linksInto f b = chain (links f) (nextLink f) (firstLink f (b - 1))

@@ -1,0 +1,150 @@
+// Reading a file whose limits and length are right: bytes of records, and what they say of an event.
+// Every event number may be asked for: at one that is no event's the answer is 0 or false.
+
+ghost use mathlib.Core.Path.{_≡_};
+ghost use Prim.Native.Nat.{_≤_, _<_};
+ghost use Rattle.models.specs.Recording.{event, read, write, access, exclusiveRead, strongWrite};
+ghost use Rattle.recording.specs.Layout.{byte, events, links, eventByte, linkByte, Sized};
+ghost use Rattle.recording.specs.Decode.{isRecorded, isInitial, fieldOr, decode};
+
+// The number of event records.
+pub fn events(file: &[u8]) -> usize
+    requires { ⌜ Sized (now file) ⌝ }
+    ensures { λ r. ⌜ (r ≡ events (now (file .entry))) × (r ≤ 48) ⌝ }
+{
+    file[1] as usize
+}
+
+// The number of link records.
+pub fn links(file: &[u8]) -> usize
+    requires { ⌜ Sized (now file) ⌝ }
+    ensures { λ r. ⌜ (r ≡ links (now (file .entry))) × (r < 256) ⌝ }
+{
+    file[3] as usize
+}
+
+// Byte k of event record i.
+pub fn event_byte(file: &[u8], i: usize, k: usize) -> usize
+    requires { ⌜ Sized (now file) × (1 ≤ i) × (i ≤ events (now file)) × (k < 8) ⌝ }
+    ensures { λ r. ⌜ (r ≡ eventByte (now (file .entry)) i k) × (r < 256) ⌝ }
+{
+    file[8 + 8 * (i - 1) + k] as usize
+}
+
+// Byte k of link record m.
+pub fn link_byte(file: &[u8], m: usize, k: usize) -> usize
+    requires { ⌜ Sized (now file) × (1 ≤ m) × (m ≤ links (now file)) × (k < 4) ⌝ }
+    ensures { λ r. ⌜ (r ≡ linkByte (now (file .entry)) m k) × (r < 256) ⌝ }
+{
+    let n = events(file);
+    file[8 + 8 * n + 4 * (m - 1) + k] as usize
+}
+
+// Whether e has a record.
+pub fn is_recorded(file: &[u8], e: usize) -> bool
+    requires { ⌜ Sized (now file) ⌝ }
+    ensures { λ r. ⌜ r ≡ isRecorded (now (file .entry)) e ⌝ }
+{
+    let n = events(file);
+    1 <= e && e <= n
+}
+
+// Whether e is an initial write.
+pub fn is_initial(file: &[u8], e: usize) -> bool
+    requires { ⌜ Sized (now file) ⌝ }
+    ensures { λ r. ⌜ r ≡ isInitial (now (file .entry)) e ⌝ }
+{
+    let l = file[2] as usize;
+    56 <= e && e < 56 + l
+}
+
+// Byte k of an event's record; given for an initial write.
+pub fn field(file: &[u8], e: usize, k: usize, given: usize) -> usize
+    requires { ⌜ Sized (now file) × (k < 8) × (given < 256) ⌝ }
+    ensures { λ r. ⌜ (r ≡ fieldOr (now (file .entry)) k given e) × (r < 256) ⌝ }
+{
+    if 56 <= e {
+        return given;
+    }
+    if is_recorded(file, e) {
+        return event_byte(file, e, k);
+    }
+    0
+}
+
+pub fn class_of(file: &[u8], e: usize) -> usize
+    requires { ⌜ Sized (now file) ⌝ }
+    ensures { λ r. ⌜ (r ≡ decode (now (file .entry)) .class e) × (r < 256) ⌝ }
+{
+    field(file, e, 1, 2)
+}
+
+pub fn mode_of(file: &[u8], e: usize) -> usize
+    requires { ⌜ Sized (now file) ⌝ }
+    ensures { λ r. ⌜ (r ≡ decode (now (file .entry)) .mode e) × (r < 256) ⌝ }
+{
+    field(file, e, 2, 0)
+}
+
+pub fn flag_of(file: &[u8], e: usize) -> usize
+    requires { ⌜ Sized (now file) ⌝ }
+    ensures { λ r. ⌜ (r ≡ decode (now (file .entry)) .flag e) × (r < 256) ⌝ }
+{
+    field(file, e, 3, 0)
+}
+
+pub fn location_of(file: &[u8], e: usize) -> usize
+    requires { ⌜ Sized (now file) ⌝ }
+    ensures { λ r. ⌜ r ≡ decode (now (file .entry)) .location e ⌝ }
+{
+    if 56 <= e { e - 56 } else { field(file, e, 4, 0) }
+}
+
+pub fn value_of(file: &[u8], e: usize) -> usize
+    requires { ⌜ Sized (now file) ⌝ }
+    ensures { λ r. ⌜ r ≡ decode (now (file .entry)) .value e ⌝ }
+{
+    field(file, e, 5, 0) + 256 * field(file, e, 6, 0)
+}
+
+pub fn is_event(file: &[u8], e: usize) -> bool
+    requires { ⌜ Sized (now file) ⌝ }
+    ensures { λ r. ⌜ r ≡ event (decode (now (file .entry))) e ⌝ }
+{
+    is_initial(file, e) || is_recorded(file, e)
+}
+
+pub fn is_read(file: &[u8], e: usize) -> bool
+    requires { ⌜ Sized (now file) ⌝ }
+    ensures { λ r. ⌜ r ≡ read (decode (now (file .entry))) e ⌝ }
+{
+    is_event(file, e) && class_of(file, e) == 1
+}
+
+pub fn is_write(file: &[u8], e: usize) -> bool
+    requires { ⌜ Sized (now file) ⌝ }
+    ensures { λ r. ⌜ r ≡ write (decode (now (file .entry))) e ⌝ }
+{
+    is_event(file, e) && class_of(file, e) == 2
+}
+
+pub fn is_access(file: &[u8], e: usize) -> bool
+    requires { ⌜ Sized (now file) ⌝ }
+    ensures { λ r. ⌜ r ≡ access (decode (now (file .entry))) e ⌝ }
+{
+    is_read(file, e) || is_write(file, e)
+}
+
+pub fn is_exclusive(file: &[u8], e: usize) -> bool
+    requires { ⌜ Sized (now file) ⌝ }
+    ensures { λ r. ⌜ r ≡ exclusiveRead (decode (now (file .entry))) e ⌝ }
+{
+    is_read(file, e) && flag_of(file, e) == 1
+}
+
+pub fn is_strong(file: &[u8], e: usize) -> bool
+    requires { ⌜ Sized (now file) ⌝ }
+    ensures { λ r. ⌜ r ≡ strongWrite (decode (now (file .entry))) e ⌝ }
+{
+    is_write(file, e) && flag_of(file, e) == 1
+}

@@ -1,0 +1,17 @@
+// Recordings: loading a file exactly when no cause of refusal applies, and reading what a loaded file holds.
+
+pub mod field;
+
+// The header's numbers: kind, N event records, L locations, M link records.
+pub struct Header {
+    pub kind: usize,
+    pub events: usize,
+    pub locations: usize,
+    pub links: usize,
+}
+
+// What loading answers.
+pub enum Load {
+    Refused(u8),
+    Loaded(Header),
+}

@@ -1,0 +1,60 @@
+// Runs the ring and order routines on a few small relations and prints what they answer, a line each.
+
+use libc::STDOUT_FILENO;
+use relation::Sequence;
+ghost use Prim.Native.Nat.{_≤_, _<_};
+
+// The first len events, each behind a space, and a line feed.
+fn show(at: [u8; 64], len: usize)
+    requires { ⌜ len ≤ 64 ⌝ }
+{
+    let mut k: usize = 0;
+    while k < len {
+        io::write_all(STDOUT_FILENO, b" ");
+        io::print_decimal(STDOUT_FILENO, at[k] as u64);
+        k += 1;
+    }
+    io::write_all(STDOUT_FILENO, b"\n");
+}
+
+fn show_ring(g: [[u8; 8]; 64], e: [[u8; 8]; 64]) {
+    io::write_all(STDOUT_FILENO, b"ring");
+    let found = relation::ring::ring(g, e);
+    let at = found.at;
+    let len = found.len;
+    show(at, len);
+}
+
+fn show_order(g: [[u8; 8]; 64], s: [u8; 8]) {
+    io::write_all(STDOUT_FILENO, b"order");
+    let found = relation::order::order(g, s);
+    let at = found.at;
+    let len = found.len;
+    show(at, len);
+}
+
+fn main() {
+    let none = relation::grid::empty();
+    // a way of three steps, 5 to 3 to 60 to 0
+    let way = relation::grid::with(
+        relation::grid::with(relation::grid::with(none, 5, 3), 3, 60),
+        60,
+        0,
+    );
+    show_ring(way, way);
+    show_order(way, relation::row::all());
+    // the same with a step back from its end
+    let round = relation::grid::with(way, 0, 5);
+    show_ring(round, round);
+    show_order(round, relation::row::all());
+    // a shorter way round beside it
+    let shorter = relation::grid::with(round, 60, 3);
+    show_ring(shorter, shorter);
+    // closed by a step of another relation
+    show_ring(way, relation::grid::with(none, 60, 5));
+    // an event that leads to itself
+    show_ring(
+        relation::grid::with(way, 63, 63),
+        relation::grid::with(way, 63, 63),
+    );
+}

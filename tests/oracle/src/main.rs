@@ -1,0 +1,142 @@
+//! The oracle's command line. Files are lines of lower-case hexadecimal digits; in an answer `;` stands for a line feed.
+
+mod boundary;
+mod boundary_events;
+mod boundary_links;
+mod boundary_several;
+mod damage;
+mod demand3;
+mod draft;
+mod execution;
+mod generate;
+mod generate_links;
+mod generate_rings;
+mod generate_syncs;
+mod handmade;
+mod litmus;
+mod models;
+mod random;
+mod recording;
+mod relation;
+mod rules;
+mod selftest;
+mod shaped;
+mod shown;
+mod translation;
+mod worked;
+
+use handmade::{bytes, from_hex, outcome, to_hex};
+use std::io::{self, BufRead, BufWriter, Write};
+use std::process::exit;
+
+const USAGE: &str = "usage: oracle COMMAND
+  answer             files in, what the judge prints out
+  translate          files in, the translation's bytes or `refused K` out
+  load               files in, `loads` or `refused K` out
+  check              lines FILE<TAB>ANSWER in, differences out; status 1 if there are any
+  generate SEED N    N random files
+  boundary           lines NAME<TAB>FILE<TAB>EXPECTED
+  litmus             lines NAME<TAB>FILE<TAB>ANSWER
+  demand3 SEED N     demand 3 on N random source recordings
+  selftest           the oracle's own tests";
+
+/// `check` prints this many differences.
+const MOST_SHOWN: usize = 20;
+
+fn main() {
+    let words: Vec<String> = std::env::args().skip(1).collect();
+    let words: Vec<&str> = words.iter().map(|w| w.as_str()).collect();
+    let mut out = BufWriter::new(io::stdout().lock());
+    let written = match words[..] {
+        ["answer"] => each_file(&mut out, shown::answer),
+        ["translate"] => each_file(&mut out, |file| match translation::translate(file) {
+            Ok(chip) => to_hex(&chip),
+            Err(cause) => outcome(cause),
+        }),
+        ["load"] => each_file(&mut out, |file| outcome(recording::load(file).err().unwrap_or(0))),
+        ["check"] => check(&mut out),
+        ["generate", seed, count] => generate(&mut out, number(seed), number(count)),
+        ["boundary"] => boundary::cases()
+            .iter()
+            .try_for_each(|c| writeln!(out, "{}\t{}\t{}", c.name, to_hex(&c.file), outcome(c.expected))),
+        ["litmus"] => litmus::ROWS.iter().try_for_each(|row| {
+            let file = bytes(row.file);
+            writeln!(out, "{}\t{}\t{}", row.name, to_hex(&file), shown::answer(&file))
+        }),
+        ["demand3", seed, count] => {
+            drop(out);
+            exit(if demand3::run(number(seed), number(count) as usize) { 0 } else { 1 });
+        }
+        ["selftest"] => {
+            drop(out);
+            exit(if selftest::run() { 0 } else { 1 });
+        }
+        _ => {
+            eprintln!("{USAGE}");
+            exit(2);
+        }
+    };
+    // A reader that stops early is no fault of ours.
+    if written.and_then(|()| out.flush()).is_err() {
+        exit(3);
+    }
+}
+
+fn number(word: &str) -> u64 {
+    word.parse().unwrap_or_else(|_| {
+        eprintln!("not a number: {word}");
+        exit(2)
+    })
+}
+
+fn file_of(line: &str) -> Vec<u8> {
+    from_hex(line).unwrap_or_else(|| {
+        eprintln!("not hexadecimal: {line}");
+        exit(2)
+    })
+}
+
+fn lines() -> impl Iterator<Item = String> {
+    io::stdin().lock().lines().map(|line| line.expect("standard input is text"))
+}
+
+/// Writes an answer line for each file line of the input.
+fn each_file(out: &mut impl Write, answer: impl Fn(&[u8]) -> String) -> io::Result<()> {
+    for line in lines() {
+        writeln!(out, "{}", answer(&file_of(&line)))?;
+    }
+    Ok(())
+}
+
+fn generate(out: &mut impl Write, seed: u64, count: u64) -> io::Result<()> {
+    let mut random = random::Random::new(seed);
+    for _ in 0..count {
+        writeln!(out, "{}", to_hex(&damage::any_file(&mut random)))?;
+    }
+    Ok(())
+}
+
+/// Compares another program's answers with the papers.
+fn check(out: &mut impl Write) -> io::Result<()> {
+    let (mut compared, mut different) = (0, 0);
+    for line in lines() {
+        let Some((hex, theirs)) = line.split_once('\t') else {
+            eprintln!("no tab: {line}");
+            exit(2);
+        };
+        let file = file_of(hex);
+        compared += 1;
+        if let Some(why) = shown::fault(&file, theirs) {
+            different += 1;
+            if different <= MOST_SHOWN {
+                writeln!(out, "{hex}\n  theirs {theirs}\n  ours   {}\n  why    {why}", shown::answer(&file))?;
+            }
+        }
+    }
+    writeln!(out, "{compared} compared, {different} different")?;
+    out.flush()?;
+    if different > 0 {
+        exit(1);
+    }
+    Ok(())
+}

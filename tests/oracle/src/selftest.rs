@@ -1,0 +1,125 @@
+//! The oracle's own tests: boundary files, litmus rows, worked examples, operators, and its own answers.
+
+use crate::boundary;
+use crate::damage::any_file;
+use crate::handmade::{bytes, outcome, to_hex};
+use crate::litmus;
+use crate::random::Random;
+use crate::recording::load;
+use crate::relation::*;
+use crate::shown::{answer, fault};
+use crate::translation::translate;
+use crate::worked;
+
+struct Tally {
+    passed: usize,
+    failed: usize,
+}
+
+impl Tally {
+    fn test(&mut self, name: &str, holds: bool, detail: impl Fn() -> String) {
+        if holds {
+            self.passed += 1;
+        } else {
+            self.failed += 1;
+            println!("failed: {name}: {}", detail());
+        }
+    }
+}
+
+/// Runs all tests; true if none fails.
+pub fn run() -> bool {
+    let mut tally = Tally { passed: 0, failed: 0 };
+    for case in boundary::cases() {
+        let got = load(&case.file).err().unwrap_or(0);
+        tally.test(&case.name, got == case.expected, || {
+            format!("{}, expected {}: {}", outcome(got), outcome(case.expected), to_hex(&case.file))
+        });
+    }
+    for row in &litmus::ROWS {
+        let file = bytes(row.file);
+        let got = answer(&file);
+        tally.test(row.name, litmus::verdicts_of(&got) == row.verdicts, || got.clone());
+        tally.test(row.name, fault(&file, row.answer).is_none(), || format!("{:?}", fault(&file, row.answer)));
+        tally.test(row.name, fault(&file, &got).is_none(), || format!("{:?}", fault(&file, &got)));
+    }
+    let [(_, file, expected), ..] = worked::ANSWERS;
+    let printed = answer(&bytes(file)).replace(';', "\n");
+    tally.test("the two lines of 01", printed == expected.replace(';', "\n"), || printed.clone());
+    for (name, text, expected) in worked::ANSWERS {
+        let file = bytes(text);
+        tally.test(name, fault(&file, expected).is_none(), || format!("{:?}; ours {}", fault(&file, expected), answer(&file)));
+        tally.test(name, fault(&file, &answer(&file)).is_none(), || answer(&file));
+    }
+    for (name, text, wrong) in worked::WRONG {
+        tally.test(name, fault(&bytes(text), wrong).is_some(), || format!("taken for right: {wrong}"));
+    }
+    let got = translate(&bytes(worked::TRANSLATION_FROM));
+    tally.test("the worked translation", got == Ok(bytes(worked::TRANSLATION_TO)), || format!("{got:?}"));
+    let chip = translate(&bytes(worked::TRANSLATION_TO));
+    tally.test("a chip file is not translated", chip == Err(11), || format!("{chip:?}"));
+    operators(&mut tally);
+    own_answers(&mut tally);
+    println!("{} passed, {} failed", tally.passed, tally.failed);
+    tally.failed == 0
+}
+
+/// The operators against their definitions, pair by pair, on random relations among a few numbers.
+fn operators(tally: &mut Tally) {
+    let mut random = Random::new(1);
+    let few = [0u8, 1, 5, 48, 56, 63];
+    for _ in 0..500 {
+        let percent = random.between(5, 40);
+        let [r, s] = [0, 1].map(|_| {
+            let mut drawn = Relation::empty();
+            for a in few {
+                for b in few {
+                    if random.chance(percent) {
+                        drawn.add(a, b);
+                    }
+                }
+            }
+            drawn
+        });
+        // Numbers reached by exactly 1, 2, .. steps of r; six numbers need no more than six steps.
+        let reached = |a: u8, b: u8| {
+            let mut at = vec![a];
+            (0..6).any(|_| {
+                at = few.iter().copied().filter(|&y| at.iter().any(|&x| r.has(x, y))).collect();
+                at.contains(&b)
+            })
+        };
+        let (joined, closed, both, either) = (compose(&r, &s), plus(&r), intersection(&r, &s), union(&[&r, &s]));
+        let (turned, less, maybe, any) = (inverse(&r), difference(&r, &s), opt(&r), star(&r));
+        let mut holds = acyclic(&r) == few.iter().all(|&a| !reached(a, a));
+        for a in few {
+            for b in few {
+                holds &= joined.has(a, b) == few.iter().any(|&m| r.has(a, m) && s.has(m, b));
+                holds &= closed.has(a, b) == reached(a, b);
+                holds &= both.has(a, b) == (r.has(a, b) && s.has(a, b));
+                holds &= either.has(a, b) == (r.has(a, b) || s.has(a, b));
+                holds &= turned.has(a, b) == r.has(b, a);
+                holds &= less.has(a, b) == (r.has(a, b) && !s.has(a, b));
+                holds &= maybe.has(a, b) == (a == b || r.has(a, b));
+                holds &= any.has(a, b) == (a == b || reached(a, b));
+                let path = shortest_path(&r, a, b);
+                holds &= path.is_some() == reached(a, b);
+                let steps = |p: Vec<u8>| p[0] == a && p[p.len() - 1] == b && p.windows(2).all(|w| r.has(w[0], w[1]));
+                holds &= path.is_none_or(steps);
+            }
+        }
+        tally.test("operators of relations", holds, || "an operator differs from its definition".into());
+    }
+}
+
+/// The oracle's answers to generated files pass its own check, and an altered answer to each does not.
+fn own_answers(tally: &mut Tally) {
+    let mut random = Random::new(2);
+    for _ in 0..2000 {
+        let file = any_file(&mut random);
+        let ours = answer(&file);
+        tally.test("own answer", fault(&file, &ours).is_none(), || format!("{} {ours}", to_hex(&file)));
+        let altered = format!("{ours}x");
+        tally.test("altered answer", fault(&file, &altered).is_some(), || format!("{} {altered}", to_hex(&file)));
+    }
+}
