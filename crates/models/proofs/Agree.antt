@@ -2,18 +2,18 @@
 -- `tests` is the one induction over terms; all else is what it gives. Assumes nothing.
 use mathlib.Core.Bool.{Bool, true, false, not, _&&_, _||_}
 use mathlib.Core.List.{List, [], _∷_, List·Memᴰ}
-use mathlib.Core.Logic.{_⊎_, inl, inr, _↔_}
+use mathlib.Core.Logic.{_⊎_, inl, inr, _↔_, _≢_}
 use mathlib.Core.Path.{_≡_, refl, subst, fun-ext}
 use Prim.Native.Nat.{ℕ, suc}
 use native.Mathlib.Omega.{arith}
-use lib.Dec.{T, eqb, eqb→eq, eqb-refl, T-not}
+use lib.Dec.{T, eqb, eqb→eq, eqb-refl, T-not, not-T}
 use Rattle.relation.specs.Rel.{Rel, some, diagonal}
 use Rattle.models.specs.Recording.{Recording, event, SetName, R, W, sameLocation, coStep}
 use Rattle.models.specs.Steps.{stay, step}
 use Rattle.models.specs.Graph.{Graph, Base, graph, base, Within}
 use Rattle.models.specs.Term.{Term, loc, po, rf, co, rmw, «data», addr, ctrl, casdep, ⟨_⟩, ⟨codom_⟩, _⨾_, _∪_, _∩_, _∖_, opt, _⁻¹, _⁺, ⟦_⟧, eval}
 use Rattle.models.specs.Rules.{Model, broken-pair, Rule1, Rule2, Rule3, Rule4, Rule5, Allowed, Verdict, allowed, broken1, broken2, broken3, broken4, broken5, first, unread, unordered, anywhere, failures, verdict}
-use Rattle.models.proofs.Tests.{and-intro, and-left, and-right, or-left, or-right, or-cases, T-ext, some-intro, some-witness, Tests, either-tests, both-tests, minus-tests, inverse-tests, identity-tests, codomain-tests, chain-tests, optional-tests, plus-tests}
+use Rattle.models.proofs.Tests.{and-intro, and-left, and-right, or-left, or-right, or-cases, T-cases, T-ext, some-intro, some-witness, Tests, either-tests, both-tests, minus-tests, inverse-tests, identity-tests, codomain-tests, chain-tests, optional-tests, plus-tests}
 use Rattle.models.proofs.Sets.{initial-event, recorded-event, member-event, access-event, same-first, same-second, CoStep, linked, initially, step-cases}
 
 -- Tests and a graph that agree on what a graph consists of.
@@ -82,11 +82,7 @@ module _ (es : List ℕ) (B : Base) (G : Graph ℕ) (g : Agrees es B G) where
 
   -- Every term is decidable between any two numbers.
   pub decides : (t : Term) (i j : ℕ) → Dec (⟦ t ⟧ G i j)
-  decides t i j = go (eval es t B i j) (tests t .to i j) (tests t .from i j)
-    where
-      go : (b : Bool) → (T b → ⟦ t ⟧ G i j) → (⟦ t ⟧ G i j → T b) → Dec (⟦ t ⟧ G i j)
-      go true f h = yes (f tt)
-      go false f h = no h
+  decides t i j = elim (T-cases (eval es t B i j)) [ inl k ↦ yes (tests t .to i j k) | inr n ↦ no (λ h. n (tests t .from i j h)) ]
 
   -- Terms that mean the same have one test.
   pub eval-same : (t u : Term) → ((i j : ℕ) → ⟦ t ⟧ G i j → ⟦ u ⟧ G i j) → ((i j : ℕ) → ⟦ u ⟧ G i j → ⟦ t ⟧ G i j) → eval es t B ≡ eval es u B
@@ -128,11 +124,12 @@ module _ (es : List ℕ) (B : Base) (G : Graph ℕ) (g : Agrees es B G) where
 
   unread-none : ¬ T (some es (unread es B)) → Rule1 G
   unfolding unread
-  unread-none n r h = go (some es (λ w. B .rf w r)) (some-witness es (λ w. B .rf w r)) (λ k. n (some-intro es (unread es B) (g .listed r (g .set-events R r h)) (and-intro (B .set R r) (not (some es (λ w. B .rf w r))) (g .sets R r .1 h) k)))
-    where
-      go : (b : Bool) → (T b → (w : ℕ) × T (B .rf w r)) → ¬ T (not b) → (w : ℕ) × G .rf w r
-      go true f m = (let w = f tt in (w .0, g .rf .to (w .0) r (w .1)))
-      go false f m = absurd (m tt)
+  unread-none n r h =
+      let found : Bool = some es (λ w. B .rf w r) in
+      elim (T-cases found) [
+        | inl k ↦ (let w = some-witness es (λ w. B .rf w r) k in (w .0, g .rf .to (w .0) r (w .1)))
+        | inr k ↦ absurd (n (some-intro es (unread es B) (g .listed r (g .set-events R r h)) (and-intro (B .set R r) (not found) (g .sets R r .1 h) (not-T found k))))
+      ]
 
   anywhere-found : (r : Rel) → T (anywhere es r) → (a b : ℕ) × T (r a b)
   unfolding anywhere
@@ -145,34 +142,48 @@ module _ (es : List ℕ) (B : Base) (G : Graph ℕ) (g : Agrees es B G) where
   unfolding anywhere
   anywhere-none r n a b p q h = n (some-intro es (λ x. some es (r x)) (g .listed a p) (some-intro es (r a) (g .listed b q) h))
 
+  -- Writes of one location; the same event or in co.
+  abbrev writes : ℕ → ℕ → Bool
+  writes a b = B .set W a && B .set W b && B .loc a b
+
+  abbrev ordered : ℕ → ℕ → Bool
+  ordered a b = eqb a b || B .co a b || B .co b a
+
+  writes-to : (a b : ℕ) → T (writes a b) → G .set W a × G .set W b × G .loc a b
+  writes-to a b h =
+      let p = and-left (B .set W a && B .set W b) (B .loc a b) h in
+      (g .sets W a .0 (and-left (B .set W a) (B .set W b) p), g .sets W b .0 (and-right (B .set W a) (B .set W b) p), g .loc .to a b (and-right (B .set W a && B .set W b) (B .loc a b) h))
+
+  writes-from : (a b : ℕ) → G .set W a → G .set W b → G .loc a b → T (writes a b)
+  writes-from a b p q l = and-intro (B .set W a && B .set W b) (B .loc a b) (and-intro (B .set W a) (B .set W b) (g .sets W a .1 p) (g .sets W b .1 q)) (g .loc .from a b l)
+
+  ordered-to : (a b : ℕ) → a ≢ b → T (ordered a b) → G .co a b ⊎ G .co b a
+  ordered-to a b d h = elim (or-cases (eqb a b || B .co a b) (B .co b a) h) [
+    | inl k ↦ elim (or-cases (eqb a b) (B .co a b) k) [ inl e ↦ absurd (d (eqb→eq a b e)) | inr c ↦ inl (g .co .to a b c) ]
+    | inr k ↦ inr (g .co .to b a k)
+  ]
+
+  ordered-from : (a b : ℕ) → (a ≡ b) ⊎ G .co a b ⊎ G .co b a → T (ordered a b)
+  ordered-from a b (inl e) = or-left (eqb a b || B .co a b) (B .co b a) (or-left (eqb a b) (B .co a b) (subst (λ c. T (eqb a c)) e (eqb-refl a)))
+  ordered-from a b (inr (inl c)) = or-left (eqb a b || B .co a b) (B .co b a) (or-right (eqb a b) (B .co a b) (g .co .from a b c))
+  ordered-from a b (inr (inr c)) = or-right (eqb a b || B .co a b) (B .co b a) (g .co .from b a c)
+
   unordered-found : T (anywhere es (unordered es B)) → ¬ Rule2 G
   unfolding unordered
   unordered-found h total =
       let x = anywhere-found (unordered es B) h in
       let a = x .0 in
       let b = x .1 in
-      let writes : Bool = B .set W a && B .set W b && B .loc a b in
-      let ordered : Bool = eqb a b || B .co a b || B .co b a in
-      let p : T writes = and-left writes (not ordered) (x .2) in
-      let n : ¬ T ordered = T-not ordered (and-right writes (not ordered) (x .2)) in
-      let ww : T (B .set W a && B .set W b) = and-left (B .set W a && B .set W b) (B .loc a b) p in
-      elim (total a b (g .sets W a .0 (and-left (B .set W a) (B .set W b) ww)) (g .sets W b .0 (and-right (B .set W a) (B .set W b) ww)) (g .loc .to a b (and-right (B .set W a && B .set W b) (B .loc a b) p)) (λ e. n (or-left (eqb a b || B .co a b) (B .co b a) (or-left (eqb a b) (B .co a b) (subst (λ c. T (eqb a c)) e (eqb-refl a)))))) [
-        | inl c ↦ n (or-left (eqb a b || B .co a b) (B .co b a) (or-right (eqb a b) (B .co a b) (g .co .from a b c)))
-        | inr c ↦ n (or-right (eqb a b || B .co a b) (B .co b a) (g .co .from b a c))
-      ]
+      let w = writes-to a b (and-left (writes a b) (not (ordered a b)) (x .2)) in
+      let n : ¬ T (ordered a b) = T-not (ordered a b) (and-right (writes a b) (not (ordered a b)) (x .2)) in
+      n (ordered-from a b (inr (total a b (w .0) (w .1) (w .2) (λ e. n (ordered-from a b (inl e))))))
 
   unordered-none : ¬ T (anywhere es (unordered es B)) → Rule2 G
   unfolding unordered
-  unordered-none n a b p q l d =
-      go (eqb a b || B .co a b || B .co b a) (λ k. k) (λ k. anywhere-none (unordered es B) n a b (g .set-events W a p) (g .set-events W b q) (and-intro (B .set W a && B .set W b && B .loc a b) (not (eqb a b || B .co a b || B .co b a)) (and-intro (B .set W a && B .set W b) (B .loc a b) (and-intro (B .set W a) (B .set W b) (g .sets W a .1 p) (g .sets W b .1 q)) (g .loc .from a b l)) k))
-    where
-      co-of : T (eqb a b || B .co a b) ⊎ T (B .co b a) → G .co a b ⊎ G .co b a
-      co-of (inl k) = elim (or-cases (eqb a b) (B .co a b) k) [ inl e ↦ absurd (d (eqb→eq a b e)) | inr c ↦ inl (g .co .to a b c) ]
-      co-of (inr k) = inr (g .co .to b a k)
-
-      go : (b′ : Bool) → (T b′ → T (eqb a b || B .co a b || B .co b a)) → ¬ T (not b′) → G .co a b ⊎ G .co b a
-      go true f m = co-of (or-cases (eqb a b || B .co a b) (B .co b a) (f tt))
-      go false f m = absurd (m tt)
+  unordered-none n a b p q l d = elim (T-cases (ordered a b)) [
+    | inl k ↦ ordered-to a b d k
+    | inr k ↦ absurd (anywhere-none (unordered es B) n a b (g .set-events W a p) (g .set-events W b q) (and-intro (writes a b) (not (ordered a b)) (writes-from a b p q l) (not-T (ordered a b) k)))
+  ]
 
   -- A term that relates an event to itself, or two events.
   loop-found : (t : Term) → T (some es (diagonal (eval es t B))) → ¬ ((a : ℕ) → ¬ ⟦ t ⟧ G a a)

@@ -15,7 +15,7 @@ module _ {E : Type 0} {r : E → E → Type 0} where
   pub snoc : {a b c : E} → Plus r a b → r b c → Plus r a c
   snoc p h = join p (one h)
 
-  -- r* ; r⁺, r⁺ ; r*, r* ; r*
+  -- r* ; r⁺ and r⁺ ; r*
   pub weak-join : {a b c : E} → Weak (Plus r) a b → Plus r b c → Plus r a c
   weak-join (stay u) q = q
   weak-join (step p) q = join p q
@@ -23,10 +23,6 @@ module _ {E : Type 0} {r : E → E → Type 0} where
   pub join-weak : {a b c : E} → Plus r a b → Weak (Plus r) b c → Plus r a c
   join-weak p (stay u) = p
   join-weak p (step q) = join p q
-
-  pub weak-weak : {a b c : E} → Weak (Plus r) a b → Weak (Plus r) b c → Weak (Plus r) a c
-  weak-weak p (stay u) = p
-  weak-weak p (step q) = step (weak-join p q)
 
   -- A transitive relation is its own closure, and goes on through r?.
   module _ (trans : (a b c : E) → r a b → r b c → r a c) where
@@ -37,10 +33,6 @@ module _ {E : Type 0} {r : E → E → Type 0} where
     pub weak-then : {a b c : E} → Weak r a b → r b c → r a c
     weak-then (stay u) k = k
     weak-then {c = c} (step {a} {b} h) k = trans a b c h k
-
-    pub then-weak : {a b c : E} → r a b → Weak r b c → r a c
-    then-weak h (stay u) = h
-    then-weak {a} h (step {a = b} {b = c} k) = trans a b c h k
 
     pub weak-trans : {a b c : E} → Weak r a b → Weak r b c → Weak r a c
     weak-trans p (stay u) = p

@@ -1,4 +1,4 @@
--- What Def. 2.3 of 003 asks of an execution graph, as far as the theorems use it, for IMM's and ARM's graphs alike. Assumes nothing.
+-- What Def. 2.3 of 003 asks of an execution graph, IMM's and ARM's alike. Values, of which no rule speaks, are left out. Assumes nothing.
 use mathlib.Core.Logic.{_⊎_}
 use mathlib.Core.Path.{_≡_}
 use Rattle.models.specs.Recording.{R, W, F, Racq, Rex, Wrel, Wstrong, Facq, Frel, Fsc, Fld, Fsy}
@@ -37,6 +37,7 @@ pub record Formed {E : Type 0} (G : Graph E) : Type 0 where
   pub rmw-po : {a b : E} → G .rmw a b → G .po a b
   pub rmw-immediate : {a b c : E} → G .rmw a b → G .po a c → G .po c b → ⊥
   pub rmw-loc : {a b : E} → G .rmw a b → G .loc a b
+  pub strong-pair : {b : E} → G .set Wstrong b → (a : E) × G .rmw a b
   -- (4) to (7) dependencies
   pub data-read : {a b : E} → G .«data» a b → G .set R a
   pub data-write : {a b : E} → G .«data» a b → G .set W b

@@ -8,7 +8,7 @@ use Rattle.models.specs.Steps.{Plus, one, cons, stay, step}
 use Rattle.models.specs.Graph.{graph}
 use Rattle.models.specs.Loads.{Loads}
 use Rattle.models.proofs.Closure.{join, reversed, comparable}
-use Rattle.models.proofs.Sets.{initial-event, recorded-event, event-cases, read-event, read-class, read-intro, write-event, write-class, write-intro, fence-event, fence-class, fence-intro, acquire-read, exclusive-read, release-write, strong-write, mode-fence, acquire-fence, release-fence, sc-release, access-cases, read-access, write-access, same-intro, same-first, same-second, same-location, CoStep, linked, initially, step-cases}
+use Rattle.models.proofs.Sets.{initial-event, recorded-event, event-cases, class-event, class-intro, class-apart, mode-class, flag-class, acquire-fence, release-fence, sc-release, access-cases, read-access, write-access, same-intro, same-first, same-second, same-location, CoStep, linked, initially, step-cases}
 use Rattle.models.proofs.Formed.{Formed}
 
 module _ {E : Type 0} (r : Recording E) (l : Loads r) where
@@ -19,29 +19,20 @@ module _ {E : Type 0} (r : Recording E) (l : Loads r) where
   Po = graph r .po
 
   -- Classes.
-  read-not-write : (a : E) → T (read r a) → T (write r a) → ⊥
-  read-not-write a h k = (let p = sym (read-class r a h) ∙ write-class r a k in omega arith)
-
-  read-not-fence : (a : E) → T (read r a) → T (fence r a) → ⊥
-  read-not-fence a h k = (let p = sym (read-class r a h) ∙ fence-class r a k in omega arith)
-
-  write-not-fence : (a : E) → T (write r a) → T (fence r a) → ⊥
-  write-not-fence a h k = (let p = sym (write-class r a h) ∙ fence-class r a k in omega arith)
-
   initial-is-write : (a : E) → T (r .initial a) → T (write r a)
-  initial-is-write a h = write-intro r a (initial-event r a h) (l .initial-write a h)
+  initial-is-write a h = class-intro r 2 a (initial-event r a h) (l .initial-write a h)
 
   classes : (a : E) → T (event r a) → T (read r a) ⊎ T (write r a) ⊎ T (fence r a)
   classes a h = elim (event-cases r a h) [
     | inl i ↦ inr (inl (initial-is-write a i))
     | inr c ↦ elim (l .class a c) [
-      | inl p ↦ inl (read-intro r a h p)
-      | inr q ↦ elim q [ inl p ↦ inr (inl (write-intro r a h p)) | inr p ↦ inr (inr (fence-intro r a h p)) ]
+      | inl p ↦ inl (class-intro r 1 a h p)
+      | inr q ↦ elim q [ inl p ↦ inr (inl (class-intro r 2 a h p)) | inr p ↦ inr (inr (class-intro r 3 a h p)) ]
     ]
   ]
 
   pub read-uninitial : (a : E) → T (read r a) → ¬ T (r .initial a)
-  read-uninitial a h i = read-not-write a h (initial-is-write a i)
+  read-uninitial a h i = class-apart r 1 2 a (omega arith) h (initial-is-write a i)
 
   -- Program order.
   nexts-source : {a b : E} → Plus Next a b → T (r .recorded a)
@@ -86,7 +77,7 @@ module _ {E : Type 0} (r : Recording E) (l : Loads r) where
   rmw-next a b h = l .rmw a b h .2
 
   rmw-read : (a b : E) → T (r .link 3 a b) → T (read r a)
-  rmw-read a b h = exclusive-read r a (l .rmw a b h .0)
+  rmw-read a b h = flag-class r 1 a (l .rmw a b h .0)
 
   rmw-after : {a b c : E} → Next a b → Plus Next a c → Plus Next c b → ⊥
   rmw-after {a} {b} {c} h (one k) q = l .next-acyclic b (subst (λ x. Plus Next x b) (l .next-functional a c b k h) q)
@@ -144,21 +135,21 @@ module _ {E : Type 0} (r : Recording E) (l : Loads r) where
   pub formed : Formed (graph r)
   formed = record {
     classes = λ {a} h. classes a h;
-    read-event = λ {a} h. read-event r a h;
-    write-event = λ {a} h. write-event r a h;
-    fence-event = λ {a} h. fence-event r a h;
-    read-write = λ {a} h k. read-not-write a h k;
-    read-fence = λ {a} h k. read-not-fence a h k;
-    write-fence = λ {a} h k. write-not-fence a h k;
-    acquire-read = λ {a} h. acquire-read r a h;
-    exclusive-read = λ {a} h. exclusive-read r a h;
-    release-write = λ {a} h. release-write r a h;
-    strong-write = λ {a} h. strong-write r a h;
+    read-event = λ {a} h. class-event r 1 a h;
+    write-event = λ {a} h. class-event r 2 a h;
+    fence-event = λ {a} h. class-event r 3 a h;
+    read-write = λ {a} h k. class-apart r 1 2 a (omega arith) h k;
+    read-fence = λ {a} h k. class-apart r 1 3 a (omega arith) h k;
+    write-fence = λ {a} h k. class-apart r 2 3 a (omega arith) h k;
+    acquire-read = λ {a} h. mode-class r 1 1 a h;
+    exclusive-read = λ {a} h. flag-class r 1 a h;
+    release-write = λ {a} h. mode-class r 2 2 a h;
+    strong-write = λ {a} h. flag-class r 2 a h;
     acquire-fence = λ {a} h. acquire-fence r a h;
     release-fence = λ {a} h. release-fence r a h;
     sc-release = λ {a} h. sc-release r a h;
-    ld-fence = λ {a} h. mode-fence r 5 a h;
-    sy-fence = λ {a} h. mode-fence r 6 a h;
+    ld-fence = λ {a} h. mode-class r 3 5 a h;
+    sy-fence = λ {a} h. mode-class r 3 6 a h;
     po-source = po-source;
     po-target = λ {a} {b} h. recorded-event r b (po-recorded h);
     po-trans = po-trans;
@@ -171,6 +162,7 @@ module _ {E : Type 0} (r : Recording E) (l : Loads r) where
     rmw-po = λ {a} {b} h. inr (one (rmw-next a b h));
     rmw-immediate = rmw-immediate;
     rmw-loc = λ {a} {b} h. same-intro r a b (read-access r a (rmw-read a b h)) (write-access r b (l .rmw a b h .1)) (l .rmw a b h .3);
+    strong-pair = λ {b} h. l .strong b h;
     data-read = λ {a} {b} h. l .«data» a b h .0;
     data-write = λ {a} {b} h. l .«data» a b h .1;
     data-po = λ {a} {b} h. l .«data» a b h .2;

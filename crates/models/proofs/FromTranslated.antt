@@ -12,7 +12,7 @@ use Rattle.models.specs.Loads.{Loads}
 use Rattle.models.specs.Translated.{Control, kept, after-read, after-pair, after-casdep, Translated}
 use Rattle.models.proofs.Closure.{join, snoc, flat, mapped, unchained}
 use Rattle.models.proofs.Tests.{and-intro, and-left, and-right, T-cases}
-use Rattle.models.proofs.Sets.{initial-event, recorded-event, event-cases, read-event, read-class, read-intro, write-event, write-class, write-intro, fence-event, fence-class, fence-intro, acquire-read, acquire-mode, acquire-intro, exclusive-read, exclusive-flag, exclusive-intro, release-write, release-mode, release-intro, strong-write, strong-flag, mode-intro, release-fence, release-fence-mode, access-cases, read-access, write-access, access-event, same-intro, same-first, same-second, same-location, CoStep, linked, initially, step-cases, step-intro}
+use Rattle.models.proofs.Sets.{initial-event, recorded-event, event-cases, class-event, class-is, class-intro, class-apart, mode-class, mode-is, mode-intro, flag-class, flag-is, flag-intro, release-fence, release-fence-mode, access-cases, read-access, write-access, access-event, same-intro, same-first, same-second, same-location, CoStep, linked, initially, step-cases, step-intro}
 use Rattle.models.proofs.FromLoads.{po-next, read-uninitial, rmw-next}
 use Rattle.models.proofs.Corresponds.{Corresponds}
 
@@ -95,24 +95,24 @@ module _ {E : Type 0} (S C : Recording E) (l : Loads S) (t : Translated S C) whe
   unrecorded e i r = (let h = initial-from e i in l .initial-unrecorded e h (recorded-from e (initial-event S e h) r))
 
   read-to : (e : E) → T (read S e) → T (read C e)
-  read-to e h = (let k = read-event S e h in read-intro C e (event-to e k) (t .class e k ∙ read-class S e h))
+  read-to e h = (let k = class-event S 1 e h in class-intro C 1 e (event-to e k) (t .class e k ∙ class-is S 1 e h))
 
   write-to : (e : E) → T (write S e) → T (write C e)
-  write-to e h = (let k = write-event S e h in write-intro C e (event-to e k) (t .class e k ∙ write-class S e h))
+  write-to e h = (let k = class-event S 2 e h in class-intro C 2 e (event-to e k) (t .class e k ∙ class-is S 2 e h))
 
   fence-to : (e : E) → T (fence S e) → T (fence C e)
-  fence-to e h = (let k = fence-event S e h in fence-intro C e (event-to e k) (t .class e k ∙ fence-class S e h))
+  fence-to e h = (let k = class-event S 3 e h in class-intro C 3 e (event-to e k) (t .class e k ∙ class-is S 3 e h))
 
   exclusive-to : (e : E) → T (exclusiveRead S e) → T (exclusiveRead C e)
-  exclusive-to e h = (let k = exclusive-read S e h in exclusive-intro C e (read-to e k) (t .read-flag e k ∙ exclusive-flag S e h))
+  exclusive-to e h = (let k = flag-class S 1 e h in flag-intro C 1 e (read-to e k) (t .read-flag e k ∙ flag-is S 1 e h))
 
   access-to : (e : E) → T (access S e) → T (access C e)
   access-to e h = elim (access-cases S e h) [ inl r ↦ read-access C e (read-to e r) | inr w ↦ write-access C e (write-to e w) ]
 
   write-from : (e : E) → T (write C e) → T (write S e)
-  write-from e h = elim (event-from e (write-event C e h)) [
-    | inl k ↦ write-intro S e k (sym (t .class e k) ∙ write-class C e h)
-    | inr p ↦ absurd (let q = sym p ∙ write-class C e h in omega arith)
+  write-from e h = elim (event-from e (class-event C 2 e h)) [
+    | inl k ↦ class-intro S 2 e k (sym (t .class e k) ∙ class-is C 2 e h)
+    | inr p ↦ absurd (let q = sym p ∙ class-is C 2 e h in omega arith)
   ]
 
   location-to : (a b : E) → T (event S a) → T (event S b) → S .location a ≡ S .location b → C .location a ≡ C .location b
@@ -184,8 +184,8 @@ module _ {E : Type 0} (S C : Recording E) (l : Loads S) (t : Translated S C) whe
           let i′ = initial-from a i in
           let w′ = write-from b w in
           let ea = initial-event S a i′ in
-          let eb = write-event S b w′ in
-          initially i′ (recorded-from b eb r) w′ (same-intro S a b (write-access S a (write-intro S a ea (l .initial-write a i′))) (write-access S b w′) (sym (t .location a ea) ∙ (same-location C a b s ∙ t .location b eb)))
+          let eb = class-event S 2 b w′ in
+          initially i′ (recorded-from b eb r) w′ (same-intro S a b (write-access S a (class-intro S 2 a ea (l .initial-write a i′))) (write-access S b w′) (sym (t .location a ea) ∙ (same-location C a b s ∙ t .location b eb)))
 
   -- The translation loads.
   one-next : (a b c : E) → Step a b → Step a c → b ≡ c
@@ -225,21 +225,21 @@ module _ {E : Type 0} (S C : Recording E) (l : Loads S) (t : Translated S C) whe
       leave w s q (cons {b = b} h k) = no-ring-at b (after w b s q h) (snoc k h)
 
   strong-none : (e : E) → ¬ T (strongWrite C e)
-  strong-none e h = (let p = sym (t .write-flag e (write-from e (strong-write C e h))) ∙ strong-flag C e h in omega arith)
+  strong-none e h = (let p = sym (t .write-flag e (write-from e (flag-class C 2 e h))) ∙ flag-is C 2 e h in omega arith)
 
   control-source : (a b : E) → Control S C a b → T (read S a)
   control-source a b (kept h) = l .ctrl a b h .0
-  control-source a b (after-read x n h) = exclusive-read S a x
-  control-source a b (after-pair w x h k m) = exclusive-read S a x
+  control-source a b (after-read x n h) = flag-class S 1 a x
+  control-source a b (after-pair w x h k m) = flag-class S 1 a x
   control-source a b (after-casdep e h m) = l .casdep a e h .0
 
   read-next : (a b : E) → T (read S a) → NextS a b → NextC a b
-  read-next a b r h = next-plain a b (λ s. (let p = sym (read-class S a r) ∙ write-class S a (strong-write S a s) in omega arith)) h
+  read-next a b r h = next-plain a b (λ s. class-apart S 1 2 a (omega arith) r (flag-class S 2 a s)) h
 
   control-po : (a b : E) → Control S C a b → graph C .po a b
   control-po a b (kept h) = po-to (l .ctrl a b h .1)
   control-po a b (after-read x n h) = inr (one h)
-  control-po a b (after-pair w x h k m) = inr (cons (read-next a w (exclusive-read S a x) (rmw-next S l a w h)) (one m))
+  control-po a b (after-pair w x h k m) = inr (cons (read-next a w (flag-class S 1 a x) (rmw-next S l a w h)) (one m))
   control-po a b (after-casdep e h m) = (let d = l .casdep a e h in inr (snoc (flat next-chained (po-next S l (read-uninitial S l a (d .0)) (d .2))) m))
 
   pub translation-loads : Loads C
@@ -258,12 +258,12 @@ module _ {E : Type 0} (S C : Recording E) (l : Loads S) (t : Translated S C) whe
     next-functional = λ a b c h k. one-next a b c (next-step a b h) (next-step a c k);
     next-injective = λ a b c h k. one-before a b c (next-step a c h) (next-step b c k);
     next-acyclic = no-ring;
-    rf = λ a b h. (let k = l .rf a b (rf-links a b .1 h) in let ea = write-event S a (k .0) in let eb = read-event S b (k .1) in
+    rf = λ a b h. (let k = l .rf a b (rf-links a b .1 h) in let ea = class-event S 2 a (k .0) in let eb = class-event S 1 b (k .1) in
         (write-to a (k .0), read-to b (k .1), location-to a b ea eb (k .2)));
     rf-once = λ a b c h k. l .rf-once a b c (rf-links a c .1 h) (rf-links b c .1 k);
-    co = λ a b h. (let k = l .co a b (co-links a b .1 h) in (write-to a (k .0), write-to b (k .1), t .recorded b (k .2), location-to a b (write-event S a (k .0)) (write-event S b (k .1)) (k .3)));
-    rmw = λ a b h. (let k = l .rmw a b (rmw-links a b .1 h) in let r = exclusive-read S a (k .0) in
-        (exclusive-to a (k .0), write-to b (k .1), read-next a b r (k .2), location-to a b (read-event S a r) (write-event S b (k .1)) (k .3)));
+    co = λ a b h. (let k = l .co a b (co-links a b .1 h) in (write-to a (k .0), write-to b (k .1), t .recorded b (k .2), location-to a b (class-event S 2 a (k .0)) (class-event S 2 b (k .1)) (k .3)));
+    rmw = λ a b h. (let k = l .rmw a b (rmw-links a b .1 h) in let r = flag-class S 1 a (k .0) in
+        (exclusive-to a (k .0), write-to b (k .1), read-next a b r (k .2), location-to a b (class-event S 1 a r) (class-event S 2 b (k .1)) (k .3)));
     «data» = λ a b h. (let k = l .«data» a b (data-links a b .1 h) in (read-to a (k .0), write-to b (k .1), po-to (k .2)));
     addr = λ a b h. (let k = l .addr a b (addr-links a b .1 h) in (read-to a (k .0), access-to b (k .1), po-to (k .2)));
     ctrl = λ a b h. (let k = t .ctrl a b .0 h in (read-to a (control-source a b k), control-po a b k));
@@ -283,7 +283,7 @@ module _ {E : Type 0} (S C : Recording E) (l : Loads S) (t : Translated S C) whe
 
   casdep-to : (a b c : E) → T (S .link 7 a b) → graph S .po b c → graph C .ctrl a c
   casdep-to a b c h p =
-      let r = exclusive-read S b (l .casdep a b h .1) in
+      let r = flag-class S 1 b (l .casdep a b h .1) in
       ctrl-along a (λ x k. t .ctrl a x .1 (after-casdep b h k)) (flat next-chained (po-next S l (read-uninitial S l b r) p))
 
   -- An exclusive read a, with d directly after it.
@@ -316,7 +316,7 @@ module _ {E : Type 0} (S C : Recording E) (l : Loads S) (t : Translated S C) whe
   inserted-before w b s (cons {b = d} h p) = cons (next-out w d s h) (flat next-chained p)
 
   inserted-ld : (w : E) → T (strongWrite S w) → T (fenceOf C 5 (t .inserted w))
-  inserted-ld w s = (let d = t .inserted w in mode-intro C 5 d (fence-intro C d (recorded-event C d (t .recorded-new w s)) (t .inserted-class w s)) (t .inserted-mode w s))
+  inserted-ld w s = (let d = t .inserted w in mode-intro C 3 5 d (class-intro C 3 d (recorded-event C d (t .recorded-new w s)) (t .inserted-class w s)) (t .inserted-mode w s))
 
   strong-uninitial : (w : E) → T (strongWrite S w) → ¬ T (S .initial w)
   strong-uninitial w s i = l .initial-unrecorded w i (strong-recorded w s)
@@ -325,11 +325,11 @@ module _ {E : Type 0} (S C : Recording E) (l : Loads S) (t : Translated S C) whe
   corresponds = record {
     read = λ {a} h. read-to a h;
     write = λ {a} h. write-to a h;
-    acquire = λ {a} h. (let r = acquire-read S a h in acquire-intro C a (read-to a r) (t .mode a (read-access S a r) ∙ acquire-mode S a h));
-    release = λ {a} h. (let w = release-write S a h in release-intro C a (write-to a w) (t .mode a (write-access S a w) ∙ release-mode S a h));
+    acquire = λ {a} h. (let r = mode-class S 1 1 a h in mode-intro C 1 1 a (read-to a r) (t .mode a (read-access S a r) ∙ mode-is S 1 1 a h));
+    release = λ {a} h. (let w = mode-class S 2 2 a h in mode-intro C 2 2 a (write-to a w) (t .mode a (write-access S a w) ∙ mode-is S 2 2 a h));
     loc = λ {a} {b} h. same-to a b h;
-    fence = λ {a} h. elim (t .fence-mode a h) [ inl k ↦ inl (mode-intro C 5 a (fence-to a h) (k .1)) | inr k ↦ inr (mode-intro C 6 a (fence-to a h) (k .1)) ];
-    release-fence = λ {a} h. (let x = release-fence S a h in elim (t .fence-mode a x) [ inl k ↦ absurd (release-fence-mode S a h (k .0)) | inr k ↦ mode-intro C 6 a (fence-to a x) (k .1) ]);
+    fence = λ {a} h. elim (t .fence-mode a h) [ inl k ↦ inl (mode-intro C 3 5 a (fence-to a h) (k .1)) | inr k ↦ inr (mode-intro C 3 6 a (fence-to a h) (k .1)) ];
+    release-fence = λ {a} h. (let x = release-fence S a h in elim (t .fence-mode a x) [ inl k ↦ absurd (release-fence-mode S a h (k .0)) | inr k ↦ mode-intro C 3 6 a (fence-to a x) (k .1) ]);
     po-to = po-to;
     po-from = λ {a} {b} p q h. po-from p q h;
     strong = λ {a} s. (t .inserted a, inserted-ld a s, inr (one (next-into a s)), λ b h. inr (inserted-before a b s (po-next S l (strong-uninitial a s) h)));
@@ -339,6 +339,6 @@ module _ {E : Type 0} (S C : Recording E) (l : Loads S) (t : Translated S C) whe
     «data» = data-links;
     addr = addr-links;
     ctrl = λ {a} {b} h. ctrl-to a b h;
-    exclusive = λ {a} {b} x h. exclusive-to-ctrl a b x (po-next S l (read-uninitial S l a (exclusive-read S a x)) h);
+    exclusive = λ {a} {b} x h. exclusive-to-ctrl a b x (po-next S l (read-uninitial S l a (flag-class S 1 a x)) h);
     casdep = λ {a} {b} {c} h p. casdep-to a b c h p;
   }

@@ -1,11 +1,11 @@
 -- The sets of a recording: what it is to be in each, and how they lie in one another. Assumes nothing.
 use mathlib.Core.Bool.{Bool, _&&_, _||_}
-use mathlib.Core.Logic.{_⊎_, inl, inr}
-use mathlib.Core.Path.{_≡_, subst}
+use mathlib.Core.Logic.{_⊎_, inl, inr, _≢_}
+use mathlib.Core.Path.{_≡_, sym, _∙_, subst}
 use Prim.Native.Nat.{ℕ}
 use native.Mathlib.Omega.{arith}
 use lib.Dec.{T, eqb, eqb→eq, eqb-refl}
-use Rattle.models.specs.Recording.{Recording, event, read, write, fence, acquireRead, exclusiveRead, releaseWrite, strongWrite, fenceOf, acquireFence, releaseFence, access, sameLocation, coStep, SetName, R, W, F, Racq, Rex, Wrel, Wstrong, Facq, Frel, Fsc, Fld, Fsy, member}
+use Rattle.models.specs.Recording.{Recording, event, ofClass, ofMode, flagged, read, write, fence, fenceOf, acquireFence, releaseFence, access, sameLocation, coStep, SetName, R, W, F, Racq, Rex, Wrel, Wstrong, Facq, Frel, Fsc, Fld, Fsy, member}
 use Rattle.models.proofs.Tests.{and-intro, and-left, and-right, or-left, or-right, or-cases}
 
 pub eq-test : (m n : ℕ) → m ≡ n → T (eqb m n)
@@ -28,104 +28,50 @@ module _ {E : Type 0} (r : Recording E) where
   unfolding event
   event-cases e h = or-cases (r .initial e) (r .recorded e) h
 
-  -- Reads, writes and fences: events of a class.
-  pub read-event : (e : E) → T (read r e) → T (event r e)
-  unfolding read
-  read-event e h = and-left (event r e) (eqb (r .class e) 1) h
+  -- Events of a class, of a mode, with flag 1.
+  pub class-event : (k : ℕ) (e : E) → T (ofClass r k e) → T (event r e)
+  unfolding ofClass
+  class-event k e h = and-left (event r e) (eqb (r .class e) k) h
 
-  pub read-class : (e : E) → T (read r e) → r .class e ≡ 1
-  unfolding read
-  read-class e h = eqb→eq (r .class e) 1 (and-right (event r e) (eqb (r .class e) 1) h)
+  pub class-is : (k : ℕ) (e : E) → T (ofClass r k e) → r .class e ≡ k
+  unfolding ofClass
+  class-is k e h = eqb→eq (r .class e) k (and-right (event r e) (eqb (r .class e) k) h)
 
-  pub read-intro : (e : E) → T (event r e) → r .class e ≡ 1 → T (read r e)
-  unfolding read
-  read-intro e h p = with-eq (event r e) (r .class e) 1 h p
+  pub class-intro : (k : ℕ) (e : E) → T (event r e) → r .class e ≡ k → T (ofClass r k e)
+  unfolding ofClass
+  class-intro k e h p = with-eq (event r e) (r .class e) k h p
 
-  pub write-event : (e : E) → T (write r e) → T (event r e)
-  unfolding write
-  write-event e h = and-left (event r e) (eqb (r .class e) 2) h
+  pub class-apart : (j k : ℕ) (e : E) → j ≢ k → T (ofClass r j e) → T (ofClass r k e) → ⊥
+  class-apart j k e n h i = n (sym (class-is j e h) ∙ class-is k e i)
 
-  pub write-class : (e : E) → T (write r e) → r .class e ≡ 2
-  unfolding write
-  write-class e h = eqb→eq (r .class e) 2 (and-right (event r e) (eqb (r .class e) 2) h)
+  pub mode-class : (k m : ℕ) (e : E) → T (ofMode r k m e) → T (ofClass r k e)
+  unfolding ofMode
+  mode-class k m e h = and-left (ofClass r k e) (eqb (r .mode e) m) h
 
-  pub write-intro : (e : E) → T (event r e) → r .class e ≡ 2 → T (write r e)
-  unfolding write
-  write-intro e h p = with-eq (event r e) (r .class e) 2 h p
+  pub mode-is : (k m : ℕ) (e : E) → T (ofMode r k m e) → r .mode e ≡ m
+  unfolding ofMode
+  mode-is k m e h = eqb→eq (r .mode e) m (and-right (ofClass r k e) (eqb (r .mode e) m) h)
 
-  pub fence-event : (e : E) → T (fence r e) → T (event r e)
-  unfolding fence
-  fence-event e h = and-left (event r e) (eqb (r .class e) 3) h
+  pub mode-intro : (k m : ℕ) (e : E) → T (ofClass r k e) → r .mode e ≡ m → T (ofMode r k m e)
+  unfolding ofMode
+  mode-intro k m e h p = with-eq (ofClass r k e) (r .mode e) m h p
 
-  pub fence-class : (e : E) → T (fence r e) → r .class e ≡ 3
-  unfolding fence
-  fence-class e h = eqb→eq (r .class e) 3 (and-right (event r e) (eqb (r .class e) 3) h)
+  pub flag-class : (k : ℕ) (e : E) → T (flagged r k e) → T (ofClass r k e)
+  unfolding flagged
+  flag-class k e h = and-left (ofClass r k e) (eqb (r .flag e) 1) h
 
-  pub fence-intro : (e : E) → T (event r e) → r .class e ≡ 3 → T (fence r e)
-  unfolding fence
-  fence-intro e h p = with-eq (event r e) (r .class e) 3 h p
+  pub flag-is : (k : ℕ) (e : E) → T (flagged r k e) → r .flag e ≡ 1
+  unfolding flagged
+  flag-is k e h = eqb→eq (r .flag e) 1 (and-right (ofClass r k e) (eqb (r .flag e) 1) h)
 
-  -- Their kinds by mode and flag.
-  pub acquire-read : (e : E) → T (acquireRead r e) → T (read r e)
-  unfolding acquireRead
-  acquire-read e h = and-left (read r e) (eqb (r .mode e) 1) h
-
-  pub acquire-mode : (e : E) → T (acquireRead r e) → r .mode e ≡ 1
-  unfolding acquireRead
-  acquire-mode e h = eqb→eq (r .mode e) 1 (and-right (read r e) (eqb (r .mode e) 1) h)
-
-  pub acquire-intro : (e : E) → T (read r e) → r .mode e ≡ 1 → T (acquireRead r e)
-  unfolding acquireRead
-  acquire-intro e h p = with-eq (read r e) (r .mode e) 1 h p
-
-  pub exclusive-read : (e : E) → T (exclusiveRead r e) → T (read r e)
-  unfolding exclusiveRead
-  exclusive-read e h = and-left (read r e) (eqb (r .flag e) 1) h
-
-  pub exclusive-flag : (e : E) → T (exclusiveRead r e) → r .flag e ≡ 1
-  unfolding exclusiveRead
-  exclusive-flag e h = eqb→eq (r .flag e) 1 (and-right (read r e) (eqb (r .flag e) 1) h)
-
-  pub exclusive-intro : (e : E) → T (read r e) → r .flag e ≡ 1 → T (exclusiveRead r e)
-  unfolding exclusiveRead
-  exclusive-intro e h p = with-eq (read r e) (r .flag e) 1 h p
-
-  pub release-write : (e : E) → T (releaseWrite r e) → T (write r e)
-  unfolding releaseWrite
-  release-write e h = and-left (write r e) (eqb (r .mode e) 2) h
-
-  pub release-mode : (e : E) → T (releaseWrite r e) → r .mode e ≡ 2
-  unfolding releaseWrite
-  release-mode e h = eqb→eq (r .mode e) 2 (and-right (write r e) (eqb (r .mode e) 2) h)
-
-  pub release-intro : (e : E) → T (write r e) → r .mode e ≡ 2 → T (releaseWrite r e)
-  unfolding releaseWrite
-  release-intro e h p = with-eq (write r e) (r .mode e) 2 h p
-
-  pub strong-write : (e : E) → T (strongWrite r e) → T (write r e)
-  unfolding strongWrite
-  strong-write e h = and-left (write r e) (eqb (r .flag e) 1) h
-
-  pub strong-flag : (e : E) → T (strongWrite r e) → r .flag e ≡ 1
-  unfolding strongWrite
-  strong-flag e h = eqb→eq (r .flag e) 1 (and-right (write r e) (eqb (r .flag e) 1) h)
-
-  pub mode-fence : (m : ℕ) (e : E) → T (fenceOf r m e) → T (fence r e)
-  unfolding fenceOf
-  mode-fence m e h = and-left (fence r e) (eqb (r .mode e) m) h
-
-  pub mode-of : (m : ℕ) (e : E) → T (fenceOf r m e) → r .mode e ≡ m
-  unfolding fenceOf
-  mode-of m e h = eqb→eq (r .mode e) m (and-right (fence r e) (eqb (r .mode e) m) h)
-
-  pub mode-intro : (m : ℕ) (e : E) → T (fence r e) → r .mode e ≡ m → T (fenceOf r m e)
-  unfolding fenceOf
-  mode-intro m e h p = with-eq (fence r e) (r .mode e) m h p
+  pub flag-intro : (k : ℕ) (e : E) → T (ofClass r k e) → r .flag e ≡ 1 → T (flagged r k e)
+  unfolding flagged
+  flag-intro k e h p = with-eq (ofClass r k e) (r .flag e) 1 h p
 
   modes-fence : (l m n : ℕ) (e : E) → T (fenceOf r l e || fenceOf r m e || fenceOf r n e) → T (fence r e)
   modes-fence l m n e h = elim (or-cases (fenceOf r l e || fenceOf r m e) (fenceOf r n e) h) [
-    | inl k ↦ elim (or-cases (fenceOf r l e) (fenceOf r m e) k) [ inl x ↦ mode-fence l e x | inr x ↦ mode-fence m e x ]
-    | inr k ↦ mode-fence n e k
+    | inl k ↦ elim (or-cases (fenceOf r l e) (fenceOf r m e) k) [ inl x ↦ mode-class 3 l e x | inr x ↦ mode-class 3 m e x ]
+    | inr k ↦ mode-class 3 n e k
   ]
 
   pub acquire-fence : (e : E) → T (acquireFence r e) → T (fence r e)
@@ -140,8 +86,8 @@ module _ {E : Type 0} (r : Recording E) where
   pub release-fence-mode : (e : E) → T (releaseFence r e) → r .mode e ≡ 1 → ⊥
   unfolding releaseFence
   release-fence-mode e h p = elim (or-cases (fenceOf r 2 e || fenceOf r 3 e) (fenceOf r 4 e) h) [
-    | inl k ↦ elim (or-cases (fenceOf r 2 e) (fenceOf r 3 e) k) [ inl x ↦ omega (arith, mode-of 2 e x) | inr x ↦ omega (arith, mode-of 3 e x) ]
-    | inr k ↦ omega (arith, mode-of 4 e k)
+    | inl k ↦ elim (or-cases (fenceOf r 2 e) (fenceOf r 3 e) k) [ inl x ↦ omega (arith, mode-is 3 2 e x) | inr x ↦ omega (arith, mode-is 3 3 e x) ]
+    | inr k ↦ omega (arith, mode-is 3 4 e k)
   ]
 
   pub sc-release : (e : E) → T (fenceOf r 4 e) → T (releaseFence r e)
@@ -149,18 +95,18 @@ module _ {E : Type 0} (r : Recording E) where
   sc-release e h = or-right (fenceOf r 2 e || fenceOf r 3 e) (fenceOf r 4 e) h
 
   pub member-event : (s : SetName) (e : E) → T (member r s e) → T (event r e)
-  member-event R e h = read-event e h
-  member-event W e h = write-event e h
-  member-event F e h = fence-event e h
-  member-event Racq e h = read-event e (acquire-read e h)
-  member-event Rex e h = read-event e (exclusive-read e h)
-  member-event Wrel e h = write-event e (release-write e h)
-  member-event Wstrong e h = write-event e (strong-write e h)
-  member-event Facq e h = fence-event e (acquire-fence e h)
-  member-event Frel e h = fence-event e (release-fence e h)
-  member-event Fsc e h = fence-event e (mode-fence 4 e h)
-  member-event Fld e h = fence-event e (mode-fence 5 e h)
-  member-event Fsy e h = fence-event e (mode-fence 6 e h)
+  member-event R e h = class-event 1 e h
+  member-event W e h = class-event 2 e h
+  member-event F e h = class-event 3 e h
+  member-event Racq e h = class-event 1 e (mode-class 1 1 e h)
+  member-event Rex e h = class-event 1 e (flag-class 1 e h)
+  member-event Wrel e h = class-event 2 e (mode-class 2 2 e h)
+  member-event Wstrong e h = class-event 2 e (flag-class 2 e h)
+  member-event Facq e h = class-event 3 e (acquire-fence e h)
+  member-event Frel e h = class-event 3 e (release-fence e h)
+  member-event Fsc e h = class-event 3 e (mode-class 3 4 e h)
+  member-event Fld e h = class-event 3 e (mode-class 3 5 e h)
+  member-event Fsy e h = class-event 3 e (mode-class 3 6 e h)
 
   -- Accesses and locations.
   pub access-cases : (e : E) → T (access r e) → T (read r e) ⊎ T (write r e)
@@ -176,7 +122,7 @@ module _ {E : Type 0} (r : Recording E) where
   write-access e h = or-right (read r e) (write r e) h
 
   pub access-event : (e : E) → T (access r e) → T (event r e)
-  access-event e h = elim (access-cases e h) [ inl k ↦ read-event e k | inr k ↦ write-event e k ]
+  access-event e h = elim (access-cases e h) [ inl k ↦ class-event 1 e k | inr k ↦ class-event 2 e k ]
 
   pub same-intro : (a b : E) → T (access r a) → T (access r b) → r .location a ≡ r .location b → T (sameLocation r a b)
   unfolding sameLocation

@@ -6,7 +6,7 @@ use mathlib.Core.Path.{_≡_, refl, sym, ap, ap₂, _∙_, subst}
 use Prim.Native.Nat.{ℕ}
 use lib.Dec.{T, eqb, eqb→eq, eqb-refl}
 use Rattle.relation.specs.Rel.{Set, Rel, union, intersection, difference, either, both, minus, inverse, identity, some, image, chain, through, plus, optional, diagonal}
-use Rattle.models.specs.Recording.{Recording, event, read, write, fence, acquireRead, exclusiveRead, releaseWrite, strongWrite, fenceOf, acquireFence, releaseFence, access, sameLocation, coStep, R, W, member}
+use Rattle.models.specs.Recording.{Recording, event, ofClass, ofMode, flagged, acquireFence, releaseFence, access, sameLocation, coStep, R, W, member}
 use Rattle.models.specs.Graph.{Execution, Base, base}
 use Rattle.models.specs.Term.{Term, loc, po, rf, co, rmw, «data», addr, ctrl, casdep, ⟨_⟩, ⟨codom_⟩, _⨾_, _∪_, _∩_, _∖_, opt, _⁻¹, _⁺, eval}
 use Rattle.models.specs.Rules.{Model, broken-pair, first, unread, unordered, anywhere, failures, verdict}
@@ -322,7 +322,7 @@ failures-table es B M =
 -- The verdict by tables.
 -- To unfold it is to unfold all that it computes with: `unfolding tableVerdict` lets it be evaluated by `refl`.
 unfoldable pub tableVerdict : List ℕ → Recording ℕ → Model → ℕ
-unfolding zipWith event read write fence acquireRead exclusiveRead releaseWrite strongWrite fenceOf acquireFence releaseFence access sameLocation coStep first zip blank picked times turned entry round rounds ones orAll cross codomain loops orTable unreadRow unorderedTable evalTable tables failuresTable
+unfolding zipWith event ofClass ofMode flagged acquireFence releaseFence access sameLocation coStep first zip blank picked times turned entry round rounds ones orAll cross codomain loops orTable unreadRow unorderedTable evalTable tables failuresTable
 tableVerdict es r M = first 1 (failuresTable es (tables es r) M)
 
 pub table-verdict : (es : List ℕ) (r : Recording ℕ) (M : Model) → verdict es (base es r) M ≡ tableVerdict es r M

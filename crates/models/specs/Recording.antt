@@ -24,32 +24,42 @@ module _ {E : Type 0} (r : Recording E) where
   unfoldable pub event : E → Bool
   event e = r .initial e || r .recorded e
 
-  unfoldable pub read : E → Bool
-  read e = event e && eqb (r .class e) 1
+  -- The events of class k; those of mode m; those with flag 1.
+  unfoldable pub ofClass : ℕ → E → Bool
+  ofClass k e = event e && eqb (r .class e) k
 
-  unfoldable pub write : E → Bool
-  write e = event e && eqb (r .class e) 2
+  unfoldable pub ofMode : ℕ → ℕ → E → Bool
+  ofMode k m e = ofClass k e && eqb (r .mode e) m
 
-  unfoldable pub fence : E → Bool
-  fence e = event e && eqb (r .class e) 3
+  unfoldable pub flagged : ℕ → E → Bool
+  flagged k e = ofClass k e && eqb (r .flag e) 1
 
-  -- A read of mode 1: acquire in a source recording, ldar in a chip recording.
-  unfoldable pub acquireRead : E → Bool
-  acquireRead e = read e && eqb (r .mode e) 1
+  abbrev pub read : E → Bool
+  read = ofClass 1
 
-  unfoldable pub exclusiveRead : E → Bool
-  exclusiveRead e = read e && eqb (r .flag e) 1
+  abbrev pub write : E → Bool
+  write = ofClass 2
 
-  -- A write of mode 2: release in a source recording, stlr in a chip recording.
-  unfoldable pub releaseWrite : E → Bool
-  releaseWrite e = write e && eqb (r .mode e) 2
+  abbrev pub fence : E → Bool
+  fence = ofClass 3
 
-  unfoldable pub strongWrite : E → Bool
-  strongWrite e = write e && eqb (r .flag e) 1
+  -- Reads of mode 1: acquire in a source recording, ldar in a chip recording.
+  abbrev pub acquireRead : E → Bool
+  acquireRead = ofMode 1 1
+
+  abbrev pub exclusiveRead : E → Bool
+  exclusiveRead = flagged 1
+
+  -- Writes of mode 2: release in a source recording, stlr in a chip recording.
+  abbrev pub releaseWrite : E → Bool
+  releaseWrite = ofMode 2 2
+
+  abbrev pub strongWrite : E → Bool
+  strongWrite = flagged 2
 
   -- Source fences: 1 acquire, 2 release, 3 both, 4 SC. Chip fences: 5 dmb ld, 6 dmb sy.
-  unfoldable pub fenceOf : ℕ → E → Bool
-  fenceOf m e = fence e && eqb (r .mode e) m
+  abbrev pub fenceOf : ℕ → E → Bool
+  fenceOf = ofMode 3
 
   unfoldable pub acquireFence : E → Bool
   acquireFence e = fenceOf 1 e || fenceOf 3 e || fenceOf 4 e

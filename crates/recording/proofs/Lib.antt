@@ -1,2 +1,3 @@
 -- Laws that the proofs of `recording` share, and its theorems.
 pub mod FieldLaws
+pub mod ChainLaws

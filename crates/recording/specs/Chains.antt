@@ -1,8 +1,10 @@
 -- Chains: events on thread chains and links on event chains (01, "The recording"; causes 6 and 7). Assumes nothing.
+use mathlib.Core.Path.{_≡_}
 use mathlib.Core.Bool.{Bool, true, false, _&&_, _||_, not}
 use mathlib.Core.List.{List, [], _∷_, _++_}
-use Prim.Native.Nat.{ℕ, zero, suc, _+_, _-_, _*_}
+use Prim.Native.Nat.{ℕ, zero, suc, _+_, _-_, _*_, _<_, _≤_}
 use lib.Dec.{eqb, leb}
+use lib.ListN.{length, getD}
 use Rattle.recording.specs.Layout.{byte, events, links, headerSize, eventSize, linkSize, linkStart, threads}
 
 -- Whether x stands in the list.
@@ -71,3 +73,26 @@ linksSound f = onceEach (links f) (met (links f) (nextLink f) (firstLink f) (eve
 -- The links into event b.
 abbrev pub linksInto : List ℕ → ℕ → List ℕ
 linksInto f b = chain (links f) (nextLink f) (firstLink f (b - 1))
+
+-- The rest says what the functions that walk chains ask for and answer.
+
+-- The starts of `count` chains and the first bytes of `limit` records lie within the file.
+pub record Linked (f : List ℕ) (first step count from size limit : ℕ) : Type 0 where
+  pub starts : (j : ℕ) → j < count → first + step * j < length f
+  pub records : (x : ℕ) → 1 ≤ x → x ≤ limit → from + size * (x - 1) < length f
+  pub small : limit < 256
+
+-- The numbers below 256 that are marked with 1 are those of the list.
+pub record Marked (l marks : List ℕ) : Type 0 where
+  pub long : length marks ≡ 256
+  pub each : (x : ℕ) → x < 256 → eqb (getD marks x 0) 1 ≡ among x l
+
+-- The list with those of a chain put before it, the last met first.
+unfoldable pub pushed : List ℕ → List ℕ → List ℕ
+pushed [] l = l
+pushed (x ∷ xs) l = pushed xs (x ∷ l)
+
+-- After a chain: whether it was sound where those of l had been met before, and if so the marks.
+pub record Followed (limit : ℕ) (l chain : List ℕ) (sound : Bool) (marks : List ℕ) : Type 0 where
+  pub answer : sound ≡ fresh limit l chain
+  pub marked : sound ≡ true → Marked (pushed chain l) marks

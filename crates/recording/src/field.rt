@@ -3,7 +3,7 @@
 
 ghost use mathlib.Core.Path.{_≡_};
 ghost use Prim.Native.Nat.{_≤_, _<_};
-ghost use Rattle.models.specs.Recording.{event, read, write, access, exclusiveRead, strongWrite};
+ghost use Rattle.models.specs.Recording.{event, ofClass, ofMode, flagged, access};
 ghost use Rattle.recording.specs.Layout.{byte, events, links, eventByte, linkByte, Sized};
 ghost use Rattle.recording.specs.Decode.{isRecorded, isInitial, fieldOr, decode};
 
@@ -114,37 +114,34 @@ pub fn is_event(file: &[u8], e: usize) -> bool
     is_initial(file, e) || is_recorded(file, e)
 }
 
-pub fn is_read(file: &[u8], e: usize) -> bool
+// Whether e is an event of class k.
+pub fn of_class(file: &[u8], e: usize, k: usize) -> bool
     requires { ⌜ Sized (now file) ⌝ }
-    ensures { λ r. ⌜ r ≡ read (decode (now (file .entry))) e ⌝ }
+    ensures { λ r. ⌜ r ≡ ofClass (decode (now (file .entry))) k e ⌝ }
 {
-    is_event(file, e) && class_of(file, e) == 1
+    is_event(file, e) && class_of(file, e) == k
 }
 
-pub fn is_write(file: &[u8], e: usize) -> bool
+// Whether e is an event of class k and mode m.
+pub fn of_mode(file: &[u8], e: usize, k: usize, m: usize) -> bool
     requires { ⌜ Sized (now file) ⌝ }
-    ensures { λ r. ⌜ r ≡ write (decode (now (file .entry))) e ⌝ }
+    ensures { λ r. ⌜ r ≡ ofMode (decode (now (file .entry))) k m e ⌝ }
 {
-    is_event(file, e) && class_of(file, e) == 2
+    of_class(file, e, k) && mode_of(file, e) == m
 }
 
+// Whether e is an event of class k with flag 1.
+pub fn is_flagged(file: &[u8], e: usize, k: usize) -> bool
+    requires { ⌜ Sized (now file) ⌝ }
+    ensures { λ r. ⌜ r ≡ flagged (decode (now (file .entry))) k e ⌝ }
+{
+    of_class(file, e, k) && flag_of(file, e) == 1
+}
+
+// Whether e is a read or a write.
 pub fn is_access(file: &[u8], e: usize) -> bool
     requires { ⌜ Sized (now file) ⌝ }
     ensures { λ r. ⌜ r ≡ access (decode (now (file .entry))) e ⌝ }
 {
-    is_read(file, e) || is_write(file, e)
-}
-
-pub fn is_exclusive(file: &[u8], e: usize) -> bool
-    requires { ⌜ Sized (now file) ⌝ }
-    ensures { λ r. ⌜ r ≡ exclusiveRead (decode (now (file .entry))) e ⌝ }
-{
-    is_read(file, e) && flag_of(file, e) == 1
-}
-
-pub fn is_strong(file: &[u8], e: usize) -> bool
-    requires { ⌜ Sized (now file) ⌝ }
-    ensures { λ r. ⌜ r ≡ strongWrite (decode (now (file .entry))) e ⌝ }
-{
-    is_write(file, e) && flag_of(file, e) == 1
+    of_class(file, e, 1) || of_class(file, e, 2)
 }

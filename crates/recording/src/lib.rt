@@ -1,6 +1,7 @@
 // Recordings: loading a file exactly when no cause of refusal applies, and reading what a loaded file holds.
 
 pub mod field;
+pub mod chain;
 
 // The header's numbers: kind, N event records, L locations, M link records.
 pub struct Header {
