@@ -10,8 +10,9 @@ use borrow.Author.Tests.{eq-eqb, ne-eqb, le-leb, lt-leb}
 use lib.Dec.{eqb, leb}
 use lib.ListN.{length, getD, set, replicate, length-set}
 use lib.Seq.{getD-set-same, getD-set-other}
+use Rattle.relation.proofs.Meaning.{and-left, and-right}
 use Rattle.relation.proofs.SetLaws.{or-false, and-false}
-use Rattle.recording.specs.Chains.{among, follow, chain, met, fresh, allMet, onceEach, pushed, Marked, Followed}
+use Rattle.recording.specs.Chains.{among, follow, chain, met, fresh, each, allMet, onceEach, pushed, Marked, Followed}
 
 -- What a chain meets next, by cases.
 pub follow-end : (limit : ℕ) (next : ℕ → ℕ) (n : ℕ) → follow limit next n 0 ≡ []
@@ -143,22 +144,35 @@ among-pushed x (y ∷ xs) l = among-pushed x xs (y ∷ l) ∙ move (among x xs) 
     move true false c = refl
     move false b c = ap (λ (d : Bool). d || c) (sym (or-false b))
 
-pub allMet-same : (n : ℕ) (l k : List ℕ) → ((x : ℕ) → among x l ≡ among x k) → allMet n l ≡ allMet n k
-unfolding allMet
-allMet-same zero l k e = refl
-allMet-same (suc n) l k e = ap₂ _&&_ (allMet-same n l k e) (e (suc n))
+-- A test of every number from 1 to n.
+pub each-same : (n : ℕ) (p q : ℕ → Bool) → ((x : ℕ) → p x ≡ q x) → each n p ≡ each n q
+unfolding each
+each-same zero p q e = refl
+each-same (suc n) p q e = ap₂ _&&_ (each-same n p q e) (e (suc n))
 
-pub allMet-more : (n : ℕ) (l : List ℕ) → allMet n l ≡ true → among (n + 1) l ≡ true → allMet (n + 1) l ≡ true
-unfolding allMet
-allMet-more n l p q = rw (add-one n, allMet, p) (rw (add-one n) at q)
+pub each-more : (n : ℕ) (p : ℕ → Bool) → each n p ≡ true → p (n + 1) ≡ true → each (n + 1) p ≡ true
+unfolding each
+each-more n p a b = rw (add-one n, each, a) (rw (add-one n) at b)
 
-pub allMet-fails : (n k : ℕ) (l : List ℕ) → k < n → among (k + 1) l ≡ false → allMet n l ≡ false
-unfolding allMet
-allMet-fails zero k l h p = absurd (omega arith)
-allMet-fails (suc n) k l h p =
+pub each-fails : (n k : ℕ) (p : ℕ → Bool) → k < n → p (k + 1) ≡ false → each n p ≡ false
+unfolding each
+each-fails zero k p h e = absurd (omega arith)
+each-fails (suc n) k p h e =
     elim (ℕ-discrete k n) [
-      yes e ↦ ap (λ (b : Bool). allMet n l && b) (ap (λ (i : ℕ). among i l) (omega arith) ∙ p) ∙ and-false (allMet n l)
-    | no d ↦ ap (λ (b : Bool). b && among (suc n) l) (allMet-fails n k l (omega (arith, d)) p)
+      yes q ↦ ap (λ (b : Bool). each n p && b) (ap p (omega arith) ∙ e) ∙ and-false (each n p)
+    | no d ↦ ap (λ (b : Bool). b && p (suc n)) (each-fails n k p (omega (arith, d)) e)
+    ]
+
+pub each-done : (n k : ℕ) (p : ℕ → Bool) → k ≡ n → each k p ≡ true → true ≡ each n p
+each-done n k p e a = sym a ∙ ap (λ (i : ℕ). each i p) e
+
+pub each-at : (n : ℕ) (p : ℕ → Bool) → each n p ≡ true → (k : ℕ) → 1 ≤ k → k ≤ n → p k ≡ true
+unfolding each
+each-at zero p a k h g = absurd (omega arith)
+each-at (suc n) p a k h g =
+    elim (ℕ-discrete k (suc n)) [
+      yes e ↦ ap p e ∙ and-right (each n p) (p (suc n)) a
+    | no d ↦ each-at n p (and-left (each n p) (p (suc n)) a) k h (omega (arith, d))
     ]
 
 -- After j chains: all sound so far, and what they met is marked.
@@ -225,7 +239,7 @@ module _ (limit : ℕ) (next start : ℕ → ℕ) where
   walked-all n k marks b e v f =
       let w : Walked limit next start n marks = subst (λ (i : ℕ). Walked limit next start i marks) e v in
       f (pushed (met limit next start n) []) (w .marked)
-      ∙ allMet-same limit (pushed (met limit next start n) []) (met limit next start n)
+      ∙ each-same limit (λ x. among x (pushed (met limit next start n) [])) (λ x. among x (met limit next start n))
       (λ x. among-pushed x (met limit next start n) [] ∙ nil x)
       ∙ ap (λ (c : Bool). c && allMet limit (met limit next start n)) (sym (w .sound))
     where

@@ -1,3 +1,4 @@
 -- Laws that the proofs of `recording` share, and its theorems.
 pub mod FieldLaws
 pub mod ChainLaws
+pub mod LegalLaws

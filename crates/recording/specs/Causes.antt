@@ -2,21 +2,16 @@
 -- Assumes nothing.
 use mathlib.Core.Bool.{Bool, true, false, _&&_, _||_, not}
 use mathlib.Core.List.{List, [], _∷_}
-use Prim.Native.Nat.{ℕ, zero, suc, _+_, _-_}
+use Prim.Native.Nat.{ℕ}
 use lib.Dec.{eqb, leb, ltb}
-use lib.ListN.{length}
-use Rattle.relation.specs.Rel.{Set, Rel, some, diagonal, below, nodes}
+use lib.ListN.{length, getD}
+use Rattle.relation.specs.Rel.{some, diagonal, nodes}
 use Rattle.models.specs.Recording.{Recording, read, write, access, exclusiveRead, strongWrite}
 use Rattle.models.specs.Graph.{base}
 use Rattle.models.specs.Rules.{first}
-use Rattle.recording.specs.Layout.{kind, events, locations, links, kindKnown, isSource, mostEvents, mostLocations, mostLinks, headerSize, fullLength, eventByte, linkByte}
-use Rattle.recording.specs.Chains.{threadsSound, linksSound, linksInto}
+use Rattle.recording.specs.Layout.{kind, events, locations, links, kindKnown, isSource, mostEvents, mostLocations, mostLinks, headerSize, fullLength, linkByte}
+use Rattle.recording.specs.Chains.{each, threadsSound, linksSound, linksInto}
 use Rattle.recording.specs.Decode.{decode}
-
--- P holds of every number from 1 to n.
-unfoldable pub each : ℕ → (ℕ → Bool) → Bool
-each zero p = true
-each (suc n) p = each n p && p (suc n)
 
 -- 5. The table of classes, modes and flags by kind.
 unfoldable pub readLegal : ℕ → ℕ → Bool
@@ -25,57 +20,84 @@ readLegal mode flag = leb mode 1 && leb flag 1
 unfoldable pub writeLegal : ℕ → ℕ → ℕ → Bool
 writeLegal k mode flag = (eqb mode 0 || eqb mode 2) && (eqb flag 0 || (eqb flag 1 && isSource k))
 
-unfoldable pub fenceLegal : ℕ → ℕ → ℕ → Bool
-fenceLegal k mode flag = elim (isSource k) [ true ↦ leb 1 mode && leb mode 4 | false ↦ leb 5 mode && leb mode 6 ] && eqb flag 0
+unfoldable pub fenceMode : ℕ → ℕ → Bool
+fenceMode k mode = elim (isSource k) [ true ↦ leb 1 mode && leb mode 4 | false ↦ leb 5 mode && leb mode 6 ]
 
--- A read's or write's location is below L; a fence has location and value 0.
+unfoldable pub fenceLegal : ℕ → ℕ → ℕ → Bool
+fenceLegal k mode flag = fenceMode k mode && eqb flag 0
+
+-- A read's or write's location is below L; a fence has location and value 0. By class: none but 1, 2 and 3 is legal.
+unfoldable pub legal : ℕ → ℕ → ℕ → ℕ → ℕ → ℕ → ℕ → Bool
+legal k L class mode flag location value =
+    getD
+    (false
+    ∷ (readLegal mode flag && ltb location L)
+    ∷ (writeLegal k mode flag && ltb location L)
+    ∷ (fenceLegal k mode flag && (eqb location 0 && eqb value 0))
+    ∷ [])
+    class false
+
 unfoldable pub eventLegal : List ℕ → ℕ → Bool
 eventLegal f e =
-    (eqb (eventByte f e 1) 1 && readLegal (eventByte f e 2) (eventByte f e 3) && ltb (eventByte f e 4) (locations f))
-    || (eqb (eventByte f e 1) 2 && writeLegal (kind f) (eventByte f e 2) (eventByte f e 3) && ltb (eventByte f e 4) (locations f))
-    || (eqb (eventByte f e 1) 3 && fenceLegal (kind f) (eventByte f e 2) (eventByte f e 3) && eqb (eventByte f e 4) 0
-    && eqb (eventByte f e 5) 0 && eqb (eventByte f e 6) 0)
+    let r : Recording ℕ = decode f in
+    legal (kind f) (locations f) (r .class e) (r .mode e) (r .flag e) (r .location e) (r .value e)
 
--- 8. The conditions of a link by its type, from a to b of a recording of kind k.
-module _ (k : ℕ) (r : Recording ℕ) where
+-- 8. The conditions of a link by its type, from a to b of a recording.
+module _ (r : Recording ℕ) where
   unfoldable pub sameLocations : ℕ → ℕ → Bool
   sameLocations a b = eqb (r .location a) (r .location b)
 
-  -- a is po-before b
-  unfoldable pub before : ℕ → ℕ → Bool
-  before = base nodes r .po
+  -- 1 rf: write to read, same location and value.
+  unfoldable pub rfLegal : ℕ → ℕ → Bool
+  rfLegal a b = (write r a && read r b) && (sameLocations a b && eqb (r .value a) (r .value b))
 
-  unfoldable pub linkLegal : ℕ → ℕ → ℕ → Bool
-  linkLegal t a b =
-      -- 1 rf: write to read, same location and value
-      (eqb t 1 && write r a && read r b && sameLocations a b && eqb (r .value a) (r .value b))
-      -- 2 co: write to another recorded write of the same location
-      || (eqb t 2 && write r a && write r b && r .recorded b && not (eqb a b) && sameLocations a b)
-      -- 3 rmw: exclusive read to the write directly after it, same location
-      || (eqb t 3 && exclusiveRead r a && write r b && r .next a b && sameLocations a b)
-      -- 4 data: read to po-later write
-      || (eqb t 4 && read r a && write r b && before a b)
-      -- 5 addr: read to po-later read or write
-      || (eqb t 5 && read r a && access r b && before a b)
-      -- 6 ctrl: read to po-later event
-      || (eqb t 6 && read r a && before a b)
-      -- 7 casdep: read to po-later exclusive read; kind 1 only
-      || (eqb t 7 && isSource k && read r a && exclusiveRead r b && before a b)
+  -- 2 co: write to another recorded write of the same location.
+  unfoldable pub coLegal : ℕ → ℕ → Bool
+  coLegal a b = (write r a && write r b) && (r .recorded b && (not (eqb a b) && sameLocations a b))
 
--- The link m into b: type and conditions as above, last byte 0.
+  -- 3 rmw: exclusive read to the write directly after it, same location.
+  unfoldable pub rmwLegal : ℕ → ℕ → Bool
+  rmwLegal a b = (exclusiveRead r a && write r b) && (r .next a b && sameLocations a b)
+
+  -- Types 4 to 7: from a read to an event po-later.
+  unfoldable pub fromRead : ℕ → ℕ → Bool
+  fromRead a b = read r a && base nodes r .po a b
+
+  -- 4 data: read to po-later write.
+  unfoldable pub dataLegal : ℕ → ℕ → Bool
+  dataLegal a b = fromRead a b && write r b
+
+  -- 5 addr: read to po-later read or write.
+  unfoldable pub addrLegal : ℕ → ℕ → Bool
+  addrLegal a b = fromRead a b && access r b
+
+  -- 6 ctrl: read to po-later event.
+  unfoldable pub ctrlLegal : ℕ → ℕ → Bool
+  ctrlLegal a b = fromRead a b
+
+  -- 7 casdep: read to po-later exclusive read; kind 1 only.
+  unfoldable pub casdepLegal : ℕ → ℕ → ℕ → Bool
+  casdepLegal k a b = fromRead a b && (isSource k && exclusiveRead r b)
+
+  -- By type: none but 1 to 7 is legal.
+  unfoldable pub linkLegal : ℕ → ℕ → ℕ → ℕ → Bool
+  linkLegal k t a b =
+      getD
+      (false ∷ rfLegal a b ∷ coLegal a b ∷ rmwLegal a b ∷ dataLegal a b ∷ addrLegal a b ∷ ctrlLegal a b ∷ casdepLegal k a b ∷ [])
+      t false
+
+  -- One source per read: no two different sources of rf links into b.
+  unfoldable pub oneSource : ℕ → Bool
+  oneSource b = not (some nodes (λ a. some nodes (λ c. (r .link 1 a b && r .link 1 c b) && not (eqb a c))))
+
+-- The link record m into b: type and conditions as above, last byte 0.
 unfoldable pub linkSound : List ℕ → ℕ → ℕ → Bool
-linkSound f b m = linkLegal (kind f) (decode f) (linkByte f m 1) (linkByte f m 2) b && eqb (linkByte f m 3) 0
+linkSound f b m = linkLegal (decode f) (kind f) (linkByte f m 1) (linkByte f m 2) b && eqb (linkByte f m 3) 0
 
--- No link of the list fails the test.
+-- The test holds of every member of the list.
 unfoldable pub allOf : List ℕ → (ℕ → Bool) → Bool
 allOf [] p = true
 allOf (x ∷ xs) p = p x && allOf xs p
-
--- One source per read: no two rf links into b differ in their source.
-unfoldable pub oneSource : List ℕ → ℕ → Bool
-oneSource f b =
-    allOf (linksInto f b)
-    (λ m. allOf (linksInto f b) (λ n. not (eqb (linkByte f m 1) 1 && eqb (linkByte f n 1) 1) || eqb (linkByte f m 2) (linkByte f n 2)))
 
 -- The causes.
 module _ (f : List ℕ) where
@@ -109,7 +131,7 @@ module _ (f : List ℕ) where
 
   -- 8 link type not 1 to 7 or its conditions broken, or last byte not 0
   unfoldable pub badLink : Bool
-  badLink = not (each (events f) (λ b. allOf (linksInto f b) (linkSound f b) && oneSource f b))
+  badLink = not (each (events f) (λ b. allOf (linksInto f b) (linkSound f b) && oneSource (decode f) b))
 
   -- 9 co leads back to its start
   unfoldable pub coRing : Bool

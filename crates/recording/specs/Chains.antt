@@ -32,10 +32,14 @@ unfoldable pub fresh : ℕ → List ℕ → List ℕ → Bool
 fresh limit seen [] = true
 fresh limit seen (x ∷ xs) = (leb x limit && not (among x seen)) && fresh limit (x ∷ seen) xs
 
+-- The test holds of every number from 1 to n.
+unfoldable pub each : ℕ → (ℕ → Bool) → Bool
+each zero p = true
+each (suc n) p = each n p && p (suc n)
+
 -- Every number from 1 to n is met.
-unfoldable pub allMet : ℕ → List ℕ → Bool
-allMet zero l = true
-allMet (suc n) l = allMet n l && among (suc n) l
+abbrev pub allMet : ℕ → List ℕ → Bool
+allMet n l = each n (λ x. among x l)
 
 -- No index over the limit, nothing met twice or never.
 unfoldable pub onceEach : ℕ → List ℕ → Bool

@@ -2,6 +2,7 @@
 
 pub mod field;
 pub mod chain;
+pub mod legal;
 
 // The header's numbers: kind, N event records, L locations, M link records.
 pub struct Header {

@@ -24,8 +24,10 @@ fn short_files(cases: &mut Cases) {
     for length in 0..8 {
         cases.add(format!("zeros, {length} bytes"), vec![0; length], 1);
         cases.add(format!("ones, {length} bytes"), vec![1; length], 1);
-        cases.add(format!("an empty source file cut to {length} bytes"), bytes("01 00 00 00 00 00 00 00")[..length].to_vec(), 1);
-        cases.add(format!("an empty chip file cut to {length} bytes"), bytes("02 00 00 00 00 00 00 00")[..length].to_vec(), 1);
+        for kind in [1, 2] {
+            let cut = vec![kind, 0, 0, 0, 0, 0, 0, 0][..length].to_vec();
+            cases.add(format!("an empty file of kind {kind} cut to {length} bytes"), cut, 1);
+        }
         cases.add(format!("255 in each byte, {length} bytes"), vec![255; length], 1);
     }
 }

@@ -113,7 +113,8 @@ fn two_events(cases: &mut Cases) {
         let fence = if kind == 1 { 1 } else { 5 };
         let fenced = set(&good, &[(in_event(2, CLASS), 3), (in_event(2, MODE), fence), (in_event(2, VALUE_LOW), 0)]);
         cases.add(format!("kind {kind}, second event: a fence"), fenced.clone(), 0);
-        cases.add(format!("kind {kind}, second event: a fence of value 256"), set(&fenced, &[(in_event(2, VALUE_HIGH), 1)]), 5);
+        let valued = set(&fenced, &[(in_event(2, VALUE_HIGH), 1)]);
+        cases.add(format!("kind {kind}, second event: a fence of value 256"), valued, 5);
     }
     cases.add("a chip fence mode in a source file", single(1, 0, 3, 6, 0, 0, [0, 0]), 5);
     cases.add("a source fence mode in a chip file", single(2, 0, 3, 4, 0, 0, [0, 0]), 5);

@@ -263,7 +263,8 @@ fn changed_events(cases: &mut Cases) {
     ];
     for kind in [1, 2] {
         for (name, link, edits, expected) in table {
-            let edits: Vec<(usize, u8)> = edits.iter().map(|&(e, field, value)| (in_event(e, field), value)).collect();
+            let places = edits.iter().map(|&(e, field, value)| (in_event(e, field), value));
+            let edits: Vec<(usize, u8)> = places.collect();
             cases.add(format!("kind {kind}: {name}"), set(&linked(kind, &[link]), &edits), expected);
         }
     }

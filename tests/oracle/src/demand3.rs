@@ -42,7 +42,8 @@ pub fn run(seed: u64, count: usize) -> bool {
         println!("source {source}, chip {chip}: {number}");
     }
     println!(
-        "{count} generated, {sources} load, {unloaded} translations refused, {against} broken under IMM but allowed under ARMv8"
+        "{count} generated, {sources} load, {unloaded} translations refused, \
+         {against} broken under IMM but allowed under ARMv8"
     );
     unloaded == 0 && against == 0
 }

@@ -25,6 +25,10 @@ pub struct Draft {
 }
 
 impl Draft {
+    pub fn empty(kind: u8) -> Draft {
+        Draft { kind, locations: 0, events: Vec::new(), threads: Default::default(), links: Vec::new() }
+    }
+
     pub fn event(&self, n: u8) -> &DraftEvent {
         &self.events[n as usize - 1]
     }

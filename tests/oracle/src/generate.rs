@@ -6,6 +6,7 @@ use crate::generate_rings::ring_shaped;
 use crate::generate_syncs::sync_shaped;
 use crate::random::Random;
 use crate::recording::*;
+use crate::shaped::mode_of;
 
 /// What a recording is mostly made of, in percent.
 pub struct Theme {
@@ -113,7 +114,9 @@ fn skeleton(random: &mut Random, kind: u8, locations: u8, count: usize, theme: &
     random.shuffle(&mut used);
     used.truncate(random.pick(&[1, 2, 2, 2, 2, 3, 3, 3, 4, 4]));
     let blank = DraftEvent { class: FENCE, mode: 0, flag: 0, location: 0, value: 0 };
-    let mut draft = Draft { kind, locations, events: vec![blank; count], threads: Default::default(), links: Vec::new() };
+    let mut draft = Draft::empty(kind);
+    draft.locations = locations;
+    draft.events = vec![blank; count];
     let mut left = numbers;
     while let Some(number) = left.pop() {
         let thread = random.pick(&used);
@@ -123,8 +126,8 @@ fn skeleton(random: &mut Random, kind: u8, locations: u8, count: usize, theme: &
             draft.threads[thread].push(number);
             continue;
         }
-        let reads = DraftEvent { class: READ, mode: random.chance(theme.acquire) as u8, flag: 0, location, value: 0 };
-        let writes = DraftEvent { class: WRITE, mode: 2 * random.chance(theme.release) as u8, flag: 0, location, value: 0 };
+        let reads = DraftEvent { class: READ, mode: mode_of(random, READ, theme), flag: 0, location, value: 0 };
+        let writes = DraftEvent { class: WRITE, mode: mode_of(random, WRITE, theme), flag: 0, location, value: 0 };
         if !left.is_empty() && random.chance(theme.pairs) {
             let write = left.pop().unwrap();
             *draft.event_mut(number) = DraftEvent { flag: 1, ..reads };

@@ -1,4 +1,5 @@
-//! The oracle's command line. Files are lines of lower-case hexadecimal digits; in an answer `;` stands for a line feed.
+//! The oracle's command line.
+//! Files are lines of lower-case hexadecimal digits; in an answer `;` stands for a line feed.
 
 mod boundary;
 mod boundary_events;

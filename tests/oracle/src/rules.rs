@@ -1,4 +1,4 @@
-//! The five rules, first broken one named, and the events shown behind the verdict (01, verdicts and "What is shown").
+//! The five rules, first broken one named, and the events shown (01, the verdicts and "What is shown").
 
 use crate::execution::Execution;
 use crate::models::{armv8, imm, split_pairs};

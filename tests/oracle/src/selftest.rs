@@ -48,7 +48,8 @@ pub fn run() -> bool {
     tally.test("the two lines of 01", printed == expected.replace(';', "\n"), || printed.clone());
     for (name, text, expected) in worked::ANSWERS {
         let file = bytes(text);
-        tally.test(name, fault(&file, expected).is_none(), || format!("{:?}; ours {}", fault(&file, expected), answer(&file)));
+        let why = fault(&file, expected);
+        tally.test(name, why.is_none(), || format!("{why:?}; ours {}", answer(&file)));
         tally.test(name, fault(&file, &answer(&file)).is_none(), || answer(&file));
     }
     for (name, text, wrong) in worked::WRONG {

@@ -15,8 +15,7 @@ pub struct Shaped {
 
 impl Shaped {
     pub fn new(kind: u8) -> Shaped {
-        let draft = Draft { kind, locations: 0, events: Vec::new(), threads: Default::default(), links: Vec::new() };
-        Shaped { draft, orders: Vec::new() }
+        Shaped { draft: Draft::empty(kind), orders: Vec::new() }
     }
 
     /// Appends an event to a thread, outside of the order of its location.

@@ -51,8 +51,8 @@ fn translated_events(source: &Recording) -> Vec<Event> {
         if old.class == WRITE && old.flag == 1 {
             // A strong write: its flag becomes 0 and a fence of mode 5 follows it.
             new.flag = 0;
-            let fence = Event { next: old.next, class: FENCE, mode: 5, flag: 0, location: 0, value: 0, first_link: 0 };
-            events.push(fence);
+            let next = old.next;
+            events.push(Event { next, class: FENCE, mode: 5, flag: 0, location: 0, value: 0, first_link: 0 });
             events[number as usize - 1].next = events.len() as u8;
         }
     }

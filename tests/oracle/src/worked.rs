@@ -15,7 +15,11 @@ pub const ANSWERS: [(&str, &str, &str); 12] = [
         "01 01 01 00 01 00 00 00 | 00 03 04 00 00 00 00 00",
         "source allowed 56 1;chip allowed 1 56;",
     ),
-    ("one fence and no location", "01 01 00 00 01 00 00 00 | 00 03 04 00 00 00 00 00", "source allowed 1;chip allowed 1;"),
+    (
+        "one fence and no location",
+        "01 01 00 00 01 00 00 00 | 00 03 04 00 00 00 00 00",
+        "source allowed 1;chip allowed 1;",
+    ),
     (
         "two reads without rf",
         "01 02 01 00 01 02 00 00 | 00 01 00 00 00 00 00 00 | 00 01 00 00 00 00 00 00",
@@ -24,18 +28,21 @@ pub const ANSWERS: [(&str, &str, &str); 12] = [
     (
         // co orders 1 and 3 only.
         "three writes without all of co",
-        "02 03 01 01 01 02 03 00 | 00 02 00 00 00 01 00 00 | 00 02 00 00 00 02 00 00 | 00 02 00 00 00 03 00 01 | 00 02 01 00",
+        "02 03 01 01 01 02 03 00 | 00 02 00 00 00 01 00 00 | 00 02 00 00 00 02 00 00
+         | 00 02 00 00 00 03 00 01 | 00 02 01 00",
         "chip broken 2 1 2;",
     ),
     (
         // 1 R x 1; 2 F both; 3 W x 1; rf 3 to 1 is external, and 2 synchronizes with itself.
         "a ring of one event",
-        "01 03 01 01 01 00 00 00 | 02 01 00 00 00 01 00 01 | 03 03 03 00 00 00 00 00 | 00 02 00 00 00 01 00 00 | 00 01 03 00",
+        "01 03 01 01 01 00 00 00 | 02 01 00 00 00 01 00 01 | 03 03 03 00 00 00 00 00
+         | 00 02 00 00 00 01 00 00 | 00 01 03 00",
         "source broken 3 2;chip broken 3 1 3;",
     ),
     (
         "the same shown by a longer ring that eco closes",
-        "01 03 01 01 01 00 00 00 | 02 01 00 00 00 01 00 01 | 03 03 03 00 00 00 00 00 | 00 02 00 00 00 01 00 00 | 00 01 03 00",
+        "01 03 01 01 01 00 00 00 | 02 01 00 00 00 01 00 01 | 03 03 03 00 00 00 00 00
+         | 00 02 00 00 00 01 00 00 | 00 01 03 00",
         "source broken 3 1 2 3;chip broken 3 1 3;",
     ),
     (
@@ -57,13 +64,15 @@ pub const ANSWERS: [(&str, &str, &str); 12] = [
 ];
 
 /// Thread 1: 3 R y; 1 R exclusive acquire x; 4 W release strong x, rmw and twice data from 1; 2 F acquire.
-/// Thread 2: 5 F both; 6 R exclusive y, failed. Further links: rf from the initial writes, casdep 3 to 1, ctrl 3 to 2.
+/// Thread 2: 5 F both; 6 R exclusive y, failed.
+/// Further links: rf from the initial writes, casdep 3 to 1, ctrl 3 to 2.
 pub const TRANSLATION_FROM: &str = "01 06 02 08 03 05 00 00
     | 04 01 01 01 00 00 00 01 | 00 03 01 00 00 00 00 08 | 01 01 00 00 01 00 00 03
     | 02 02 02 01 00 01 00 04 | 06 03 03 00 00 00 00 00 | 00 01 00 01 01 00 00 07
     | 02 01 38 00 | 00 07 03 00 | 00 01 39 00 | 05 03 01 00 | 06 04 01 00 | 00 04 01 00 | 00 01 39 00 | 00 06 03 00";
 
-/// Fence 7 stands behind 4. New ctrl links: 1 to 7 (rmw and data), 3 to 4 (casdep); none for 6, the last of its thread.
+/// Fence 7 stands behind 4. New ctrl links: 1 to 7 (rmw and data), 3 to 4 (casdep);
+/// none for 6, the last of its thread.
 pub const TRANSLATION_TO: &str = "02 07 02 08 03 05 00 00
     | 04 01 01 01 00 00 00 01 | 00 03 05 00 00 00 00 02 | 01 01 00 00 01 00 00 03
     | 07 02 02 00 00 01 00 04 | 06 03 06 00 00 00 00 00 | 00 01 00 01 01 00 00 07 | 02 03 05 00 00 00 00 08

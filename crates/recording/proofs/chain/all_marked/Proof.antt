@@ -4,8 +4,8 @@ use mathlib.Core.Bool.{true}
 use mathlib.Core.List.{List}
 use Prim.Native.Nat.{ℕ, _-_, _≤_, _<_}
 use native.Mathlib.Omega.{arith}
-use Rattle.recording.specs.Chains.{allMet, Marked}
-use Rattle.recording.proofs.ChainLaws.{allMet-more, allMet-fails, marked-is, marked-not}
+use Rattle.recording.specs.Chains.{each, allMet, Marked}
+use Rattle.recording.proofs.ChainLaws.{each-more, each-fails, marked-is, marked-not}
 use borrow.Author.Needs.{needs}
 use Rattle.recording.proofs.chain.all_marked.Statement.{statement}
 use Rattle.recording.proofs.chain.all_marked.Tie as tie
@@ -17,7 +17,7 @@ abbrev μ-loop : tie.MeasureT-loop
 μ-loop limit marks x₀ x = limit - x
 
 loop-holds : tie.Need-loop-holds Inv-loop μ-loop
-unfolding allMet
+unfolding each
 loop-holds c = (search needs, search needs, λ l w. refl)
 
 add-x : tie.Need-add-x Inv-loop μ-loop
@@ -27,7 +27,7 @@ array-read-if1 : tie.Need-array-read-if1 Inv-loop μ-loop
 array-read-if1 c = search needs
 
 returns : tie.Need-returns Inv-loop μ-loop
-returns c = λ l w. sym (allMet-fails _ _ l (c .before .loop-test .taken) (marked-not l _ _ (omega arith) w (c .if1 .taken)))
+returns c = λ l w. sym (each-fails _ _ _ (c .before .loop-test .taken) (marked-not l _ _ (omega arith) w (c .if1 .taken)))
 
 loop-less : tie.Need-loop-less Inv-loop μ-loop
 loop-less c = search needs
@@ -35,7 +35,7 @@ loop-less c = search needs
 loop-again : tie.Need-loop-again Inv-loop μ-loop
 loop-again c =
     let inv = c .before .before .loop .inv in
-    (omega arith, inv .1, λ l w. allMet-more _ l (inv .2 l w) (marked-is l _ _ (omega arith) w (c .if1 .left)))
+    (omega arith, inv .1, λ l w. each-more _ _ (inv .2 l w) (marked-is l _ _ (omega arith) w (c .if1 .left)))
 
 returns-2 : tie.Need-returns-2 Inv-loop μ-loop
 returns-2 c = λ l w. sym (ap (λ (n : ℕ). allMet n l) (omega arith) ∙ c .before .loop .inv .2 l w)
