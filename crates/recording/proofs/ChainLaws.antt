@@ -49,11 +49,11 @@ marked-more l at x h w =
     record {
       long = length-set at x 1 ∙ w .long;
       each = λ y g. elim (ℕ-discrete y x) [
-        yes e ↦ ap (λ (n : ℕ). eqb n 1) (ap (λ (k : ℕ). getD (set at x 1) k 0) e ∙ getD-set-same at x 1 0 (omega (arith, w .long)))
-        ∙ ap (λ (b : Bool). b || among y l) (sym (eq-eqb y x e))
-      | no d ↦ ap (λ (n : ℕ). eqb n 1) (getD-set-other at x y 1 0 d) ∙ w .each y g
-      ∙ ap (λ (b : Bool). b || among y l) (sym (ne-eqb y x d))
-      ]
+        | yes e ↦ ap (λ (n : ℕ). eqb n 1) (ap (λ (k : ℕ). getD (set at x 1) k 0) e ∙ getD-set-same at x 1 0 (omega (arith, w .long)))
+            ∙ ap (λ (b : Bool). b || among y l) (sym (eq-eqb y x e))
+        | no d ↦ ap (λ (n : ℕ). eqb n 1) (getD-set-other at x y 1 0 d) ∙ w .each y g
+            ∙ ap (λ (b : Bool). b || among y l) (sym (ne-eqb y x d))
+      ];
     }
 
 pub marked-is : (l at : List ℕ) (x : ℕ) → x < 256 → Marked l at → getD at x 0 ≡ 1 → among x l ≡ true
@@ -82,7 +82,7 @@ module _ (limit : ℕ) (next : ℕ → ℕ) (l whole : List ℕ) (n x : ℕ) (at
   going-done e =
       record {
         answer = sym (w .same ∙ ap (fresh limit (w .seen)) e);
-        marked = λ p. subst (λ (k : List ℕ). Marked k at) (sym (w .rest ∙ ap (λ (c : List ℕ). pushed c (w .seen)) e)) (w .marked)
+        marked = λ p. subst (λ (k : List ℕ). Marked k at) (sym (w .rest ∙ ap (λ (c : List ℕ). pushed c (w .seen)) e)) (w .marked);
       }
 
   fails : (c : List ℕ) → follow limit next n x ≡ c → fresh limit (w .seen) c ≡ false → Followed limit l whole false at
@@ -104,14 +104,14 @@ module _ (limit : ℕ) (next : ℕ → ℕ) (l whole : List ℕ) (n x : ℕ) (at
   unfolding fresh pushed
   going-on m y e d h g p q =
       let step : follow limit next n x ≡ x ∷ follow limit next m y
-          = ap (λ (k : ℕ). follow limit next k x) e ∙ follow-in limit next m x d h
-          ∙ ap (λ (z : ℕ). x ∷ follow limit next m z) (sym q) in
+      = ap (λ (k : ℕ). follow limit next k x) e ∙ follow-in limit next m x d h
+      ∙ ap (λ (z : ℕ). x ∷ follow limit next m z) (sym q) in
       record {
         seen = x ∷ w .seen;
         marked = marked-more (w .seen) at x g (w .marked);
         same = w .same ∙ ap (fresh limit (w .seen)) step
-        ∙ ap (λ (b : Bool). b && fresh limit (x ∷ w .seen) (follow limit next m y)) (tests (le-leb x limit h) (marked-not (w .seen) at x g (w .marked) p));
-        rest = w .rest ∙ ap (λ (c : List ℕ). pushed c (w .seen)) step
+            ∙ ap (λ (b : Bool). b && fresh limit (x ∷ w .seen) (follow limit next m y)) (tests (le-leb x limit h) (marked-not (w .seen) at x g (w .marked) p));
+        rest = w .rest ∙ ap (λ (c : List ℕ). pushed c (w .seen)) step;
       }
     where
       tests : leb x limit ≡ true → among x (w .seen) ≡ false → leb x limit && not (among x (w .seen)) ≡ true
@@ -159,8 +159,8 @@ unfolding each
 each-fails zero k p h e = absurd (omega arith)
 each-fails (suc n) k p h e =
     elim (ℕ-discrete k n) [
-      yes q ↦ ap (λ (b : Bool). each n p && b) (ap p (omega arith) ∙ e) ∙ and-false (each n p)
-    | no d ↦ ap (λ (b : Bool). b && p (suc n)) (each-fails n k p (omega (arith, d)) e)
+      | yes q ↦ ap (λ (b : Bool). each n p && b) (ap p (omega arith) ∙ e) ∙ and-false (each n p)
+      | no d ↦ ap (λ (b : Bool). b && p (suc n)) (each-fails n k p (omega (arith, d)) e)
     ]
 
 pub each-done : (n k : ℕ) (p : ℕ → Bool) → k ≡ n → each k p ≡ true → true ≡ each n p
@@ -171,8 +171,8 @@ unfolding each
 each-at zero p a k h g = absurd (omega arith)
 each-at (suc n) p a k h g =
     elim (ℕ-discrete k (suc n)) [
-      yes e ↦ ap p e ∙ and-right (each n p) (p (suc n)) a
-    | no d ↦ each-at n p (and-left (each n p) (p (suc n)) a) k h (omega (arith, d))
+      | yes e ↦ ap p e ∙ and-right (each n p) (p (suc n)) a
+      | no d ↦ each-at n p (and-left (each n p) (p (suc n)) a) k h (omega (arith, d))
     ]
 
 -- After j chains: all sound so far, and what they met is marked.
@@ -208,7 +208,7 @@ module _ (limit : ℕ) (next start : ℕ → ℕ) where
       let f = from-start j x (pushed (met limit next start j) []) sound at e (g (pushed (met limit next start j) []) (w .marked)) in
       record {
         sound = step j marks sound at w f ∙ p;
-        marked = rw (add-one j, met) (rw (pushed-append (met limit next start j) (chain limit next (start j)) []) (f .marked p))
+        marked = rw (add-one j, met) (rw (pushed-append (met limit next start j) (chain limit next (start j)) []) (f .marked p));
       }
 
   -- an unsound chain leaves all unsound
@@ -218,10 +218,10 @@ module _ (limit : ℕ) (next start : ℕ → ℕ) where
       let e : j ≡ zero = omega arith in subst (λ (k : ℕ). fresh limit [] (met limit next start k) ≡ false) e p
   unsound-on (suc n) j h p =
       elim (ℕ-discrete j (suc n)) [
-        yes e ↦ subst (λ (k : ℕ). fresh limit [] (met limit next start k) ≡ false) e p
-      | no d ↦ fresh-append limit [] (met limit next start n) (chain limit next (start n))
-      ∙ ap (λ (b : Bool). b && fresh limit (pushed (met limit next start n) []) (chain limit next (start n)))
-      (unsound-on n j (omega (arith, d)) p)
+        | yes e ↦ subst (λ (k : ℕ). fresh limit [] (met limit next start k) ≡ false) e p
+        | no d ↦ fresh-append limit [] (met limit next start n) (chain limit next (start n))
+            ∙ ap (λ (b : Bool). b && fresh limit (pushed (met limit next start n) []) (chain limit next (start n)))
+            (unsound-on n j (omega (arith, d)) p)
       ]
 
   pub walked-fails : (n j x : ℕ) (marks : List ℕ) (sound : Bool) (at : List ℕ) → x ≡ start j → j < n → Walked limit next start j marks

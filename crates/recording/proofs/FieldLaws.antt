@@ -2,12 +2,14 @@
 use mathlib.Core.Path.{_≡_, refl, sym, ap, _∙_}
 use mathlib.Core.Bool.{Bool, true, false, _&&_, _||_, false≢true}
 use mathlib.Core.List.{List}
+use mathlib.Core.Logic.{inl, inr}
 use Prim.Native.Nat.{ℕ, _+_, _-_, _*_, _<_, _≤_}
 use native.Mathlib.Omega.{arith}
-use borrow.Author.Tests.{le-leb, lt-leb, leb-true}
+use borrow.Author.Tests.{le-leb, lt-leb, leb-true, ltb-true}
 use lib.Dec.{leb, ltb, eqb}
-use Rattle.relation.proofs.Meaning.{and-left, and-right}
-use Rattle.recording.specs.Layout.{byte, events, eventByte, firstInitial, locations}
+use Rattle.relation.proofs.Meaning.{and-left, and-right, or-either}
+use Rattle.models.specs.Recording.{event, ofClass}
+use Rattle.recording.specs.Layout.{byte, events, eventByte, firstInitial, locations, Sized}
 use Rattle.recording.specs.Decode.{isRecorded, isInitial, recordOr, fieldOr, decode}
 
 -- A test by `&&` or `||` in the code, from the tests on its two sides.
@@ -93,3 +95,16 @@ location-recorded f e b h p = p ∙ same (isRecorded f e) refl
     same : (c : Bool) → isRecorded f e ≡ c → recordOr f (λ x. 0) here e ≡ recordOr f (λ x. x - firstInitial) here e
     same true q = sym (record-recorded f (λ x. 0) here e h q) ∙ record-recorded f (λ x. x - firstInitial) here e h q
     same false q = sym (record-none f (λ x. 0) here e h q) ∙ record-none f (λ x. x - firstInitial) here e h q
+
+-- Events are numbered below 64.
+pub event-small : (f : List ℕ) (e : ℕ) → Sized f → event (decode f) e ≡ true → e < 64
+unfolding event decode isInitial
+event-small f e s p =
+    elim (or-either (isInitial f e) (isRecorded f e) p) [
+      | inl q ↦ let h = ltb-true e (56 + locations f) (and-right (leb 56 e) (ltb e (56 + locations f)) q) in omega (arith, s .most-locations)
+      | inr q ↦ let (a, b) = recorded-bounds f e q in omega (arith, s .most-events)
+    ]
+
+pub class-small : (f : List ℕ) (k e : ℕ) → Sized f → ofClass (decode f) k e ≡ true → e < 64
+unfolding ofClass
+class-small f k e s p = event-small f e s (and-left (event (decode f) e) _ p)

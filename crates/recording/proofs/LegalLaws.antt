@@ -5,10 +5,11 @@ use mathlib.Core.List.{List}
 use Prim.Native.Nat.{ℕ, zero, suc}
 use native.Mathlib.Omega.{arith}
 use Rattle.models.specs.Recording.{Recording}
-use Rattle.recording.specs.Layout.{kind, locations}
-use Rattle.recording.specs.Decode.{decode}
+use Rattle.recording.specs.Layout.{byte, kind, locations, eventByte, linkByte, Sized}
+use Rattle.recording.specs.Chains.{nextOf, nextEvent}
+use Rattle.recording.specs.Decode.{isRecorded, decode}
 use lib.Dec.{eqb, ltb}
-use Rattle.recording.specs.Causes.{readLegal, writeLegal, fenceLegal, legal, eventLegal, linkLegal}
+use Rattle.recording.specs.Causes.{readLegal, writeLegal, fenceLegal, legal, eventLegal, rfLegal, coLegal, rmwLegal, fromRead, dataLegal, addrLegal, ctrlLegal, casdepLegal, linkLegal, linkSound}
 
 module _ (k L class mode flag location value : ℕ) (b : Bool) where
   pub legal-read : class ≡ 1 → b ≡ readLegal mode flag && ltb location L → b ≡ legal k L class mode flag location value
@@ -37,3 +38,77 @@ pub event-legal : (f : List ℕ) (e class mode flag location value : ℕ) → cl
     → location ≡ decode f .location e → value ≡ decode f .value e → legal (kind f) (locations f) class mode flag location value ≡ eventLegal f e
 unfolding eventLegal
 event-legal f e class mode flag location value a b c d v = rw (a, b, c, d, v)
+
+-- Whether b follows a.
+pub next-first : (f : List ℕ) (a : ℕ) → eventByte f a 0 ≡ nextEvent f a
+unfolding nextOf
+next-first f a = ap (byte f) (omega arith)
+
+pub next-no : (f : List ℕ) (a b : ℕ) → isRecorded f a ≡ false → false ≡ decode f .next a b
+unfolding decode
+next-no f a b p = rw p
+
+pub next-none : (f : List ℕ) (a b : ℕ) (r : Bool) → isRecorded f a ≡ true → r ≡ isRecorded f b → r ≡ false → r ≡ decode f .next a b
+unfolding decode
+next-none f a b r p e q = q ∙ rw (p, sym e ∙ q)
+
+pub next-yes : (f : List ℕ) (a b n : ℕ) → isRecorded f a ≡ true → isRecorded f b ≡ true → n ≡ eventByte f a 0 → eqb n b ≡ decode f .next a b
+unfolding decode
+next-yes f a b n p q e = rw (p, q) (ap (λ (x : ℕ). eqb x b) (e ∙ next-first f a))
+
+-- A link's condition by its type.
+module _ (r : Recording ℕ) (k t a b : ℕ) (x : Bool) where
+  pub link-rf : t ≡ 1 → x ≡ rfLegal r a b → x ≡ linkLegal r k t a b
+  unfolding linkLegal
+  link-rf e p = p ∙ ap (λ (i : ℕ). linkLegal r k i a b) (sym e)
+
+  pub link-co : t ≡ 2 → x ≡ coLegal r a b → x ≡ linkLegal r k t a b
+  unfolding linkLegal
+  link-co e p = p ∙ ap (λ (i : ℕ). linkLegal r k i a b) (sym e)
+
+  pub link-rmw : t ≡ 3 → x ≡ rmwLegal r a b → x ≡ linkLegal r k t a b
+  unfolding linkLegal
+  link-rmw e p = p ∙ ap (λ (i : ℕ). linkLegal r k i a b) (sym e)
+
+  pub link-data : t ≡ 4 → x ≡ dataLegal r a b → x ≡ linkLegal r k t a b
+  unfolding linkLegal
+  link-data e p = p ∙ ap (λ (i : ℕ). linkLegal r k i a b) (sym e)
+
+  pub link-addr : t ≡ 5 → x ≡ addrLegal r a b → x ≡ linkLegal r k t a b
+  unfolding linkLegal
+  link-addr e p = p ∙ ap (λ (i : ℕ). linkLegal r k i a b) (sym e)
+
+  pub link-ctrl : t ≡ 6 → x ≡ fromRead r a b → x ≡ linkLegal r k t a b
+  unfolding linkLegal ctrlLegal
+  link-ctrl e p = p ∙ ap (λ (i : ℕ). linkLegal r k i a b) (sym e)
+
+  pub link-casdep : t ≡ 7 → x ≡ casdepLegal r k a b → x ≡ linkLegal r k t a b
+  unfolding linkLegal
+  link-casdep e p = p ∙ ap (λ (i : ℕ). linkLegal r k i a b) (sym e)
+
+pub link-other : (r : Recording ℕ) (k t a b : ℕ) → (t ≡ 1 → ⊥) → (t ≡ 2 → ⊥) → (t ≡ 3 → ⊥) → (t ≡ 4 → ⊥) → (t ≡ 5 → ⊥) → (t ≡ 6 → ⊥) → (t ≡ 7 → ⊥)
+    → false ≡ linkLegal r k t a b
+unfolding linkLegal
+link-other r k zero a b h1 h2 h3 h4 h5 h6 h7 = refl
+link-other r k (suc zero) a b h1 h2 h3 h4 h5 h6 h7 = absurd (h1 refl)
+link-other r k (suc (suc zero)) a b h1 h2 h3 h4 h5 h6 h7 = absurd (h2 refl)
+link-other r k (suc (suc (suc zero))) a b h1 h2 h3 h4 h5 h6 h7 = absurd (h3 refl)
+link-other r k (suc (suc (suc (suc zero)))) a b h1 h2 h3 h4 h5 h6 h7 = absurd (h4 refl)
+link-other r k (suc (suc (suc (suc (suc zero))))) a b h1 h2 h3 h4 h5 h6 h7 = absurd (h5 refl)
+link-other r k (suc (suc (suc (suc (suc (suc zero)))))) a b h1 h2 h3 h4 h5 h6 h7 = absurd (h6 refl)
+link-other r k (suc (suc (suc (suc (suc (suc (suc zero))))))) a b h1 h2 h3 h4 h5 h6 h7 = absurd (h7 refl)
+link-other r k (suc (suc (suc (suc (suc (suc (suc (suc n)))))))) a b h1 h2 h3 h4 h5 h6 h7 = refl
+
+-- Another recorded event.
+pub not-recorded : (f : List ℕ) (b : ℕ) (x : Bool) → isRecorded f b ≡ false → false ≡ decode f .recorded b && x
+unfolding decode
+not-recorded f b x p = rw p
+
+pub is-recorded-and : (f : List ℕ) (b : ℕ) (x y : Bool) → isRecorded f b ≡ true → x ≡ y → x ≡ decode f .recorded b && y
+unfolding decode
+is-recorded-and f b x y p e = rw p e
+
+-- A link record, read byte by byte.
+pub link-read : (f : List ℕ) (k b m t a : ℕ) (x : Bool) → t ≡ linkByte f m 1 → a ≡ linkByte f m 2 → x ≡ linkLegal (decode f) k t a b
+    → x ≡ linkLegal (decode f) k (linkByte f m 1) (linkByte f m 2) b
+link-read f k b m t a x p q e = e ∙ ap₂ (λ (i j : ℕ). linkLegal (decode f) k i j b) p q

@@ -1,15 +1,16 @@
 -- The causes of refusal 1 to 10 (01, "Causes of refusal, in order"): each is one definition, and `refusal` is the first that applies.
 -- Assumes nothing.
+use mathlib.Core.Path.{_≡_}
 use mathlib.Core.Bool.{Bool, true, false, _&&_, _||_, not}
 use mathlib.Core.List.{List, [], _∷_}
-use Prim.Native.Nat.{ℕ}
+use Prim.Native.Nat.{ℕ, _≤_}
 use lib.Dec.{eqb, leb, ltb}
 use lib.ListN.{length, getD}
 use Rattle.relation.specs.Rel.{some, diagonal, nodes}
 use Rattle.models.specs.Recording.{Recording, read, write, access, exclusiveRead, strongWrite}
 use Rattle.models.specs.Graph.{base}
 use Rattle.models.specs.Rules.{first}
-use Rattle.recording.specs.Layout.{kind, events, locations, links, kindKnown, isSource, mostEvents, mostLocations, mostLinks, headerSize, fullLength, linkByte}
+use Rattle.recording.specs.Layout.{kind, events, locations, links, kindKnown, isSource, mostEvents, mostLocations, mostLinks, headerSize, fullLength, linkByte, Sized}
 use Rattle.recording.specs.Chains.{each, threadsSound, linksSound, linksInto}
 use Rattle.recording.specs.Decode.{decode}
 
@@ -146,3 +147,18 @@ module _ (f : List ℕ) where
   refusal =
       first 1
       (tooShort ∷ kindUnknown ∷ overLimit ∷ wrongLength ∷ badEvent ∷ badThreads ∷ badChains ∷ badLink ∷ coRing ∷ unpaired ∷ [])
+
+-- The rest says what the functions that read links ask for.
+
+-- A link record that lies within the file.
+unfoldable pub within : List ℕ → ℕ → Bool
+within f m = leb m (links f)
+
+-- And whose source is below 64.
+unfoldable pub readable : List ℕ → ℕ → Bool
+readable f m = within f m && ltb (linkByte f m 2) 64
+
+-- Every link of the file is readable.
+pub record Readable (f : List ℕ) : Type 0 where
+  pub sized : Sized f
+  pub chains : (b : ℕ) → 1 ≤ b → b ≤ events f → allOf (linksInto f b) (readable f) ≡ true

@@ -37,5 +37,5 @@ decode f =
       initial = isInitial f;
       recorded = isRecorded f;
       next = λ a b. isRecorded f a && isRecorded f b && eqb (nextEvent f a) b;
-      link = λ t a b. isRecorded f b && some (linksInto f b) (λ m. eqb (linkByte f m 1) t && eqb (linkByte f m 2) a)
+      link = λ t a b. isRecorded f b && some (linksInto f b) (λ m. eqb (linkByte f m 1) t && eqb (linkByte f m 2) a);
     }

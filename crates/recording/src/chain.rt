@@ -42,7 +42,14 @@ pub struct Marks {
 }
 
 // Follows one chain and marks what it meets.
-pub fn follow(file: &[u8], from: usize, size: usize, limit: usize, start: Cursor, marks: [u8; 256]) -> Marks
+pub fn follow(
+    file: &[u8],
+    from: usize,
+    size: usize,
+    limit: usize,
+    start: Cursor,
+    marks: [u8; 256],
+) -> Marks
     requires { ⌜ Linked (now file) 0 0 0 from size limit × (start .at < 256) ⌝ }
     ensures { λ r. ⌜ ((l : List ℕ) → Marked l marks → Followed limit l (chain limit (nextOf (now (file .entry)) from size) (start .at)) (r .sound) (r .at)) ⌝ }
 {
@@ -84,7 +91,15 @@ pub fn all_marked(marks: [u8; 256], limit: usize) -> bool
 }
 
 // Whether the chains from count starts meet every record once and no number over the limit.
-pub fn once_each(file: &[u8], first: usize, step: usize, count: usize, from: usize, size: usize, limit: usize) -> bool
+pub fn once_each(
+    file: &[u8],
+    first: usize,
+    step: usize,
+    count: usize,
+    from: usize,
+    size: usize,
+    limit: usize,
+) -> bool
     requires { ⌜ Linked (now file) first step count from size limit ⌝ }
     ensures { λ r. ⌜ r ≡ onceEach limit (met limit (nextOf (now (file .entry)) from size) (startOf (now (file .entry)) first step) count) ⌝ }
 {

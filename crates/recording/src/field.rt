@@ -97,7 +97,11 @@ pub fn location_of(file: &[u8], e: usize) -> usize
     requires { ⌜ Sized (now file) ⌝ }
     ensures { λ r. ⌜ r ≡ decode (now (file .entry)) .location e ⌝ }
 {
-    if 56 <= e { e - 56 } else { field(file, e, 4, 0) }
+    if 56 <= e {
+        e - 56
+    } else {
+        field(file, e, 4, 0)
+    }
 }
 
 pub fn value_of(file: &[u8], e: usize) -> usize

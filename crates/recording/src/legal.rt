@@ -2,15 +2,15 @@
 
 use crate::field;
 use relation::grid;
-
 ghost use mathlib.Core.Path.{_≡_};
-ghost use mathlib.Core.Bool.{_&&_, _||_};
+ghost use mathlib.Core.Bool.{not, _&&_, _||_};
 ghost use Prim.Native.Nat.{_≤_, _<_};
 ghost use lib.Dec.{eqb, leb};
 ghost use Rattle.relation.specs.Bits.{edge};
 ghost use Rattle.relation.specs.Rel.{nodes};
 ghost use Rattle.models.specs.Graph.{base};
-ghost use Rattle.recording.specs.Layout.{events, links, isSource, Sized};
+ghost use Rattle.models.specs.Recording.{ofClass, flagged};
+ghost use Rattle.recording.specs.Layout.{kind, events, links, isSource, Sized};
 ghost use Rattle.recording.specs.Chains.{each};
 ghost use Rattle.recording.specs.Decode.{decode};
 ghost use Rattle.recording.specs.Causes.{readLegal, writeLegal, fenceMode, fenceLegal, legal, eventLegal, sameLocations, rfLegal, coLegal, rmwLegal, fromRead, dataLegal, addrLegal, casdepLegal, linkLegal, linkSound};
@@ -76,7 +76,15 @@ pub fn both_zero(location: usize, value: usize) -> bool
 }
 
 // Whether an event's numbers are as the table says.
-pub fn legal(kind: usize, l: usize, class: usize, mode: usize, flag: usize, location: usize, value: usize) -> bool
+pub fn legal(
+    kind: usize,
+    l: usize,
+    class: usize,
+    mode: usize,
+    flag: usize,
+    location: usize,
+    value: usize,
+) -> bool
     ensures { λ r. ⌜ r ≡ legal kind l class mode flag location value ⌝ }
 {
     if class == 1 {
@@ -100,7 +108,15 @@ pub fn event_legal(file: &[u8], e: usize) -> bool
     let class = field::class_of(file, e);
     let mode = field::mode_of(file, e);
     let flag = field::flag_of(file, e);
-    legal(kind, l, class, mode, flag, field::location_of(file, e), field::value_of(file, e))
+    legal(
+        kind,
+        l,
+        class,
+        mode,
+        flag,
+        field::location_of(file, e),
+        field::value_of(file, e),
+    )
 }
 
 // Whether every event record is legal.
@@ -117,4 +133,164 @@ pub fn events_legal(file: &[u8]) -> bool
         }
     }
     true
+}
+
+// Whether a and b are events of classes j and k.
+pub fn classes(file: &[u8], a: usize, j: usize, b: usize, k: usize) -> bool
+    requires { ⌜ Sized (now file) ⌝ }
+    ensures { λ r. ⌜ r ≡ ofClass (decode (now (file .entry))) j a && ofClass (decode (now (file .entry))) k b ⌝ }
+{
+    field::of_class(file, a, j) && field::of_class(file, b, k)
+}
+
+pub fn same_location(file: &[u8], a: usize, b: usize) -> bool
+    requires { ⌜ Sized (now file) ⌝ }
+    ensures { λ r. ⌜ r ≡ sameLocations (decode (now (file .entry))) a b ⌝ }
+{
+    field::location_of(file, a) == field::location_of(file, b)
+}
+
+pub fn same_value(file: &[u8], a: usize, b: usize) -> bool
+    requires { ⌜ Sized (now file) ⌝ }
+    ensures { λ r. ⌜ r ≡ sameLocations (decode (now (file .entry))) a b && eqb (decode (now (file .entry)) .value a) (decode (now (file .entry)) .value b) ⌝ }
+{
+    same_location(file, a, b) && field::value_of(file, a) == field::value_of(file, b)
+}
+
+// 1 rf: write to read, same location and value.
+pub fn rf_legal(file: &[u8], a: usize, b: usize) -> bool
+    requires { ⌜ Sized (now file) ⌝ }
+    ensures { λ r. ⌜ r ≡ rfLegal (decode (now (file .entry))) a b ⌝ }
+{
+    classes(file, a, 2, b, 1) && same_value(file, a, b)
+}
+
+// Whether b is a recorded event, other than a, of the same location.
+pub fn another(file: &[u8], a: usize, b: usize) -> bool
+    requires { ⌜ Sized (now file) ⌝ }
+    ensures { λ r. ⌜ r ≡ decode (now (file .entry)) .recorded b && (not (eqb a b) && sameLocations (decode (now (file .entry))) a b) ⌝ }
+{
+    if !field::is_recorded(file, b) {
+        return false;
+    }
+    a != b && same_location(file, a, b)
+}
+
+// 2 co: write to another recorded write of the same location.
+pub fn co_legal(file: &[u8], a: usize, b: usize) -> bool
+    requires { ⌜ Sized (now file) ⌝ }
+    ensures { λ r. ⌜ r ≡ coLegal (decode (now (file .entry))) a b ⌝ }
+{
+    classes(file, a, 2, b, 2) && another(file, a, b)
+}
+
+// Whether b directly follows a in its thread.
+pub fn is_next(file: &[u8], a: usize, b: usize) -> bool
+    requires { ⌜ Sized (now file) ⌝ }
+    ensures { λ r. ⌜ r ≡ decode (now (file .entry)) .next a b ⌝ }
+{
+    if !field::is_recorded(file, a) {
+        return false;
+    }
+    field::is_recorded(file, b) && field::event_byte(file, a, 0) == b
+}
+
+pub fn next_same(file: &[u8], a: usize, b: usize) -> bool
+    requires { ⌜ Sized (now file) ⌝ }
+    ensures { λ r. ⌜ r ≡ decode (now (file .entry)) .next a b && sameLocations (decode (now (file .entry))) a b ⌝ }
+{
+    is_next(file, a, b) && same_location(file, a, b)
+}
+
+pub fn exclusive_to_write(file: &[u8], a: usize, b: usize) -> bool
+    requires { ⌜ Sized (now file) ⌝ }
+    ensures { λ r. ⌜ r ≡ flagged (decode (now (file .entry))) 1 a && ofClass (decode (now (file .entry))) 2 b ⌝ }
+{
+    field::is_flagged(file, a, 1) && field::of_class(file, b, 2)
+}
+
+// 3 rmw: exclusive read to the write directly after it, same location.
+pub fn rmw_legal(file: &[u8], a: usize, b: usize) -> bool
+    requires { ⌜ Sized (now file) ⌝ }
+    ensures { λ r. ⌜ r ≡ rmwLegal (decode (now (file .entry))) a b ⌝ }
+{
+    exclusive_to_write(file, a, b) && next_same(file, a, b)
+}
+
+// Types 4 to 7: from a read to an event po-later, where po is program order.
+pub fn from_read(file: &[u8], po: [[u8; 8]; 64], a: usize, b: usize) -> bool
+    requires { ⌜ Sized (now file) × (edge po ≡ base nodes (decode (now file)) .po) × (b < 64) ⌝ }
+    ensures { λ r. ⌜ r ≡ fromRead (decode (now (file .entry))) a b ⌝ }
+{
+    field::of_class(file, a, 1) && grid::has(po, a, b)
+}
+
+// 4 data: read to po-later write.
+pub fn data_legal(file: &[u8], po: [[u8; 8]; 64], a: usize, b: usize) -> bool
+    requires { ⌜ Sized (now file) × (edge po ≡ base nodes (decode (now file)) .po) × (b < 64) ⌝ }
+    ensures { λ r. ⌜ r ≡ dataLegal (decode (now (file .entry))) a b ⌝ }
+{
+    from_read(file, po, a, b) && field::of_class(file, b, 2)
+}
+
+// 5 addr: read to po-later read or write.
+pub fn addr_legal(file: &[u8], po: [[u8; 8]; 64], a: usize, b: usize) -> bool
+    requires { ⌜ Sized (now file) × (edge po ≡ base nodes (decode (now file)) .po) × (b < 64) ⌝ }
+    ensures { λ r. ⌜ r ≡ addrLegal (decode (now (file .entry))) a b ⌝ }
+{
+    from_read(file, po, a, b) && field::is_access(file, b)
+}
+
+pub fn source_exclusive(file: &[u8], b: usize) -> bool
+    requires { ⌜ Sized (now file) ⌝ }
+    ensures { λ r. ⌜ r ≡ isSource (kind (now (file .entry))) && flagged (decode (now (file .entry))) 1 b ⌝ }
+{
+    is_source(file[0] as usize) && field::is_flagged(file, b, 1)
+}
+
+// 7 casdep: read to po-later exclusive read; kind 1 only.
+pub fn casdep_legal(file: &[u8], po: [[u8; 8]; 64], a: usize, b: usize) -> bool
+    requires { ⌜ Sized (now file) × (edge po ≡ base nodes (decode (now file)) .po) × (b < 64) ⌝ }
+    ensures { λ r. ⌜ r ≡ casdepLegal (decode (now (file .entry))) (kind (now (file .entry))) a b ⌝ }
+{
+    from_read(file, po, a, b) && source_exclusive(file, b)
+}
+
+// Whether a link of type t may lead from a to b.
+pub fn link_legal(file: &[u8], po: [[u8; 8]; 64], t: usize, a: usize, b: usize) -> bool
+    requires { ⌜ Sized (now file) × (edge po ≡ base nodes (decode (now file)) .po) × (b < 64) ⌝ }
+    ensures { λ r. ⌜ r ≡ linkLegal (decode (now (file .entry))) (kind (now (file .entry))) t a b ⌝ }
+{
+    if t == 1 {
+        return rf_legal(file, a, b);
+    }
+    if t == 2 {
+        return co_legal(file, a, b);
+    }
+    if t == 3 {
+        return rmw_legal(file, a, b);
+    }
+    if t == 4 {
+        return data_legal(file, po, a, b);
+    }
+    if t == 5 {
+        return addr_legal(file, po, a, b);
+    }
+    if t == 6 {
+        return from_read(file, po, a, b);
+    }
+    if t == 7 {
+        return casdep_legal(file, po, a, b);
+    }
+    false
+}
+
+// Whether the link record m into b is sound.
+pub fn link_sound(file: &[u8], po: [[u8; 8]; 64], m: usize, b: usize) -> bool
+    requires { ⌜ Sized (now file) × (edge po ≡ base nodes (decode (now file)) .po) × (b < 64) × (1 ≤ m) × (m ≤ links (now file)) ⌝ }
+    ensures { λ r. ⌜ r ≡ linkSound (now (file .entry)) b m ⌝ }
+{
+    let t = field::link_byte(file, m, 1);
+    let a = field::link_byte(file, m, 2);
+    link_legal(file, po, t, a, b) && field::link_byte(file, m, 3) == 0
 }

@@ -1,7 +1,7 @@
 // Recordings: loading a file exactly when no cause of refusal applies, and reading what a loaded file holds.
 
-pub mod field;
 pub mod chain;
+pub mod field;
 pub mod legal;
 
 // The header's numbers: kind, N event records, L locations, M link records.

@@ -11,7 +11,7 @@ use borrow.Author.Tests.{eq-eqb, ne-eqb}
 use lib.Dec.{eqb, ltb}
 use lib.ListN.{length, getD, set, replicate, length-set, List·getD-eq-default}
 use lib.Seq.{getD-set-same, getD-set-other}
-use Rattle.relation.specs.Rel.{Set, Rel, empty, none, single, pair, union, intersection, difference, either, both, minus, inverse, identity, from, into, some, image, chain, through, plus, optional, star, diagonal, below, nodes}
+use Rattle.relation.specs.Rel.{Set, Rel, empty, none, single, pair, union, intersection, difference, either, both, minus, inverse, identity, product, from, into, some, image, chain, through, plus, optional, star, diagonal, below, nodes}
 use Rattle.relation.specs.Bits.{bit, edge}
 use Rattle.relation.proofs.ByteLaws.{bit-none, bit-out, on-zero}
 use Rattle.relation.proofs.SetLaws.{or-comm, or-false, and-false}
@@ -192,3 +192,16 @@ plus-none r = refl
 pub plus-step : (k : ℕ) (r t : Rel) → t ≡ plus (below k) r → through k t ≡ plus (below (k + 1)) r
 unfolding plus below
 plus-step k r t p = rw (add-one k) (ap (through k) p)
+
+-- The product of two sets, row by row.
+pub product-yes : (s t : Set) (m : ℕ) → s m ≡ true → t ≡ product s t m
+unfolding product
+product-yes s t m p = fun-ext (λ j. ap (λ (b : Bool). b && t j) (sym p))
+
+pub product-no : (s t : Set) (m : ℕ) → s m ≡ false → none m ≡ product s t m
+unfolding product none empty
+product-no s t m p = fun-ext (λ j. ap (λ (b : Bool). b && t j) (sym p))
+
+pub product-out : (s t : Set) (m : ℕ) → s m ≡ false → product s t m ≡ empty
+unfolding none
+product-out s t m p = sym (product-no s t m p)

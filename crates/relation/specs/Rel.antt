@@ -56,6 +56,10 @@ inverse r i j = r j i
 unfoldable pub identity : Set → Rel
 identity s i j = s i && eqb i j
 
+-- s × t: from every event of s to every event of t
+unfoldable pub product : Set → Set → Rel
+product s t i j = s i && t j
+
 -- [s] ; r
 unfoldable pub from : Set → Rel → Rel
 from s r i j = s i && r i j

@@ -4,7 +4,7 @@
 use crate::row;
 ghost use mathlib.Core.Path.{_≡_};
 ghost use Prim.Native.Nat.{_<_};
-ghost use Rattle.relation.specs.Rel.{none, pair, either, both, minus, inverse, identity, from, into, image, chain, through, plus, optional, star, diagonal, nodes};
+ghost use Rattle.relation.specs.Rel.{none, pair, either, both, minus, inverse, identity, product, from, into, image, chain, through, plus, optional, star, diagonal, nodes};
 ghost use Rattle.relation.specs.Bits.{bit, edge};
 
 // The empty relation.
@@ -128,6 +128,21 @@ pub fn identity(s: [u8; 8]) -> [[u8; 8]; 64]
         if row::has(s, i) {
             let x = row::none();
             h[i] = row::with(x, i);
+        }
+        i += 1;
+    }
+    h
+}
+
+// From every event of s to every event of t.
+pub fn product(s: [u8; 8], t: [u8; 8]) -> [[u8; 8]; 64]
+    ensures { λ r. ⌜ edge r ≡ product (bit s) (bit t) ⌝ }
+{
+    let mut h = empty();
+    let mut i: usize = 0;
+    while i < 64 {
+        if row::has(s, i) {
+            h[i] = t;
         }
         i += 1;
     }

@@ -1,5 +1,6 @@
 //! Random recordings built around a ring: threads joined by rf, fr and co,
-//! inside them fences, dependencies and pairs. Whether a model forbids the ring depends on what stands in each thread.
+//! inside them fences, dependencies and pairs.
+//! Whether a model forbids the ring depends on what stands in each thread.
 
 use crate::draft::Draft;
 use crate::generate::{fence_mode, Theme};

@@ -36,9 +36,10 @@ cast-result c = omega (arith, c .shared-slice-known2 .given (8 + 8 * (c .before 
 
 returns : tie.Need-returns
 returns c =
-    let start = c .before .before .before in
-    (ap (λ (n : ℕ). getD (start .args .file .now) (8 + 8 * n + 4 * (start .args .m - 1) + start .args .k) 0) (c .before .events .ensures .0),
-    omega (arith, c .shared-slice-known2 .given (8 + 8 * (c .before .events .result) + 4 * (start .args .m - 1) + start .args .k)))
+    let start = c .before .before .before in (
+      ap (λ (n : ℕ). getD (start .args .file .now) (8 + 8 * n + 4 * (start .args .m - 1) + start .args .k) 0) (c .before .events .ensures .0),
+      omega (arith, c .shared-slice-known2 .given (8 + 8 * (c .before .events .result) + 4 * (start .args .m - 1) + start .args .k)),
+    )
 
 pub link-byte-spec : {M : Type 1} → statement M
 link-byte-spec =

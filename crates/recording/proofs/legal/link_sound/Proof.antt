@@ -1,0 +1,42 @@
+-- `legal::link_sound` meets its contract. Assumes nothing.
+use mathlib.Core.Path.{_∙_}
+use Rattle.recording.specs.Causes.{linkSound}
+use Rattle.recording.proofs.FieldLaws.{and-yes, and-no, is-number}
+use Rattle.recording.proofs.LegalLaws.{link-read}
+use borrow.Author.Needs.{needs}
+use Rattle.recording.proofs.legal.link_sound.Statement.{statement}
+use Rattle.recording.proofs.legal.link_sound.Tie as tie
+
+link-byte-requires : tie.Need-link-byte-requires
+link-byte-requires c κs = search needs
+
+link-byte-requires-2 : tie.Need-link-byte-requires-2
+link-byte-requires-2 c κs = search needs
+
+link-legal-requires : tie.Need-link-legal-requires
+link-legal-requires c κs = search needs
+
+link-byte-requires-3 : tie.Need-link-byte-requires-3
+link-byte-requires-3 c κs = search needs
+
+returns : tie.Need-returns
+unfolding linkSound
+returns c =
+    and-yes _ _ _ _ (link-read _ _ _ _ _ _ _ (c .before .before .before .before .link-byte .ensures .0) (c .before .before .before .link-byte2 .ensures .0) (c .before .before .link-legal .ensures))
+    (c .before .if1 .taken) (is-number 0 _ _ (c .link-byte3 .ensures .0))
+
+returns-2 : tie.Need-returns-2
+unfolding linkSound
+returns-2 c =
+    and-no _ _ _ (link-read _ _ _ _ _ _ _ (c .before .before .before .link-byte .ensures .0) (c .before .before .link-byte2 .ensures .0) (c .before .link-legal .ensures)) (c .if1 .left)
+
+pub link-sound-spec : {M : Type 1} → statement M
+link-sound-spec =
+    tie.close
+    (tie.spec
+    link-byte-requires
+    link-byte-requires-2
+    link-legal-requires
+    link-byte-requires-3
+    returns
+    returns-2)

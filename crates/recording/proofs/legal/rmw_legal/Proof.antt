@@ -1,0 +1,24 @@
+-- `legal::rmw_legal` meets its contract: its definition, test by test. Assumes nothing.
+use Rattle.recording.specs.Causes.{rmwLegal}
+use Rattle.recording.proofs.FieldLaws.{and-yes, and-no}
+use borrow.Author.Needs.{needs}
+use Rattle.recording.proofs.legal.rmw_legal.Statement.{statement}
+use Rattle.recording.proofs.legal.rmw_legal.Tie as tie
+
+exclusive-to-write-requires : tie.Need-exclusive-to-write-requires
+exclusive-to-write-requires c κs = search needs
+
+next-same-requires : tie.Need-next-same-requires
+next-same-requires c κs = search needs
+
+returns : tie.Need-returns
+unfolding rmwLegal
+returns c = and-yes _ _ _ _ (c .before .before .exclusive-to-write .ensures) (c .before .if1 .taken) (c .next-same .ensures)
+
+returns-2 : tie.Need-returns-2
+unfolding rmwLegal
+returns-2 c = and-no _ _ _ (c .before .exclusive-to-write .ensures) (c .if1 .left)
+
+pub rmw-legal-spec : {M : Type 1} → statement M
+rmw-legal-spec =
+    tie.close (tie.spec exclusive-to-write-requires next-same-requires returns returns-2)
