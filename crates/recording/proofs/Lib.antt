@@ -2,3 +2,4 @@
 pub mod FieldLaws
 pub mod ChainLaws
 pub mod LegalLaws
+pub mod LinkLaws

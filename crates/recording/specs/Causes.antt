@@ -6,7 +6,7 @@ use mathlib.Core.List.{List, [], _∷_}
 use Prim.Native.Nat.{ℕ, _≤_}
 use lib.Dec.{eqb, leb, ltb}
 use lib.ListN.{length, getD}
-use Rattle.relation.specs.Rel.{some, diagonal, nodes}
+use Rattle.relation.specs.Rel.{some, inverse, diagonal, nodes}
 use Rattle.models.specs.Recording.{Recording, read, write, access, exclusiveRead, strongWrite}
 use Rattle.models.specs.Graph.{base}
 use Rattle.models.specs.Rules.{first}
@@ -100,6 +100,14 @@ unfoldable pub allOf : List ℕ → (ℕ → Bool) → Bool
 allOf [] p = true
 allOf (x ∷ xs) p = p x && allOf xs p
 
+-- The links into b: each is sound, and b has one rf source.
+unfoldable pub linksSoundAt : List ℕ → ℕ → Bool
+linksSoundAt f b = allOf (linksInto f b) (linkSound f b) && oneSource (decode f) b
+
+-- e is no strong write, or has an rmw.
+unfoldable pub pairedAt : List ℕ → ℕ → Bool
+pairedAt f e = not (strongWrite (decode f) e) || some nodes (inverse (decode f .link 3) e)
+
 -- The causes.
 module _ (f : List ℕ) where
   -- 1 under 8 bytes
@@ -132,7 +140,7 @@ module _ (f : List ℕ) where
 
   -- 8 link type not 1 to 7 or its conditions broken, or last byte not 0
   unfoldable pub badLink : Bool
-  badLink = not (each (events f) (λ b. allOf (linksInto f b) (linkSound f b) && oneSource (decode f) b))
+  badLink = not (each (events f) (linksSoundAt f))
 
   -- 9 co leads back to its start
   unfoldable pub coRing : Bool
@@ -140,7 +148,7 @@ module _ (f : List ℕ) where
 
   -- 10 strong write without rmw
   unfoldable pub unpaired : Bool
-  unpaired = not (each (events f) (λ e. not (strongWrite (decode f) e) || some nodes (λ a. decode f .link 3 a e)))
+  unpaired = not (each (events f) (pairedAt f))
 
   -- The first cause that applies, and 0 where none does.
   unfoldable pub refusal : ℕ

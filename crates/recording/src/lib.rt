@@ -2,7 +2,9 @@
 
 pub mod chain;
 pub mod field;
+pub mod graph;
 pub mod legal;
+pub mod links;
 
 // The header's numbers: kind, N event records, L locations, M link records.
 pub struct Header {

@@ -1,0 +1,64 @@
+// The links of a file: those into one event, walked along its chain.
+
+use crate::chain::Cursor;
+use crate::field;
+use crate::legal;
+use relation::row;
+ghost use mathlib.Core.Path.{_≡_};
+ghost use mathlib.Core.Bool.{true};
+ghost use Prim.Native.Nat.{_≤_, _<_};
+ghost use Rattle.relation.specs.Bits.{bit, edge};
+ghost use Rattle.relation.specs.Rel.{nodes, inverse};
+ghost use Rattle.models.specs.Graph.{base};
+ghost use Rattle.recording.specs.Layout.{events, Sized};
+ghost use Rattle.recording.specs.Chains.{each, linksInto};
+ghost use Rattle.recording.specs.Decode.{decode};
+ghost use Rattle.recording.specs.Causes.{allOf, linkSound, oneSource, linksSoundAt, within, readable, Readable};
+
+// Whether every link into b is sound, where po is program order.
+pub fn sound_into(file: &[u8], po: [[u8; 8]; 64], b: usize) -> bool
+    requires { ⌜ Sized (now file) × (edge po ≡ base nodes (decode (now file)) .po) × (1 ≤ b) × (b ≤ events (now file)) × (allOf (linksInto (now file) b) (within (now file)) ≡ true) ⌝ }
+    ensures { λ r. ⌜ r ≡ allOf (linksInto (now (file .entry)) b) (linkSound (now (file .entry)) b) ⌝ }
+{
+    let from = 8 + 8 * field::events(file);
+    let mut n = field::links(file) + 1;
+    let mut cursor = Cursor::start(file, 15, 8, b - 1);
+    while 0 < n {
+        let m = cursor.at;
+        if m == 0 {
+            return true;
+        }
+        if !legal::link_sound(file, po, m, b) {
+            return false;
+        }
+        let next = cursor.moved(file, from, 4);
+        cursor = next;
+        n -= 1;
+    }
+    true
+}
+
+// The sources of the links of type t into b.
+pub fn sources(file: &[u8], b: usize, t: usize) -> [u8; 8]
+    requires { ⌜ Sized (now file) × (1 ≤ b) × (b ≤ events (now file)) × (allOf (linksInto (now file) b) (readable (now file)) ≡ true) ⌝ }
+    ensures { λ r. ⌜ bit r ≡ inverse (decode (now (file .entry)) .link t) b ⌝ }
+{
+    let from = 8 + 8 * field::events(file);
+    let mut r = row::none();
+    let mut n = field::links(file) + 1;
+    let mut cursor = Cursor::start(file, 15, 8, b - 1);
+    while 0 < n {
+        let m = cursor.at;
+        if m == 0 {
+            return r;
+        }
+        if field::link_byte(file, m, 1) == t {
+            let z = row::with(r, field::link_byte(file, m, 2));
+            r = z;
+        }
+        let next = cursor.moved(file, from, 4);
+        cursor = next;
+        n -= 1;
+    }
+    r
+}
