@@ -3,3 +3,4 @@ pub mod FieldLaws
 pub mod ChainLaws
 pub mod LegalLaws
 pub mod LinkLaws
+pub mod GraphLaws

@@ -4,3 +4,4 @@ pub mod Chains
 pub mod Decode
 pub mod Causes
 pub mod Load
+pub mod Sets

@@ -1,1 +1,170 @@
-// The relations of a file's recording that loading needs, as grids: next, program order, the links of a type, what co follows from.
+// The sets and relations of a file's recording, as rows and grids.
+
+use crate::Members;
+use crate::field;
+use crate::legal;
+use crate::links;
+use relation::grid;
+use relation::row;
+ghost use mathlib.Core.Path.{_≡_};
+ghost use mathlib.Core.Bool.{true};
+ghost use Prim.Native.Nat.{ℕ, _≤_, _<_};
+ghost use Rattle.relation.specs.Bits.{bit, edge};
+ghost use Rattle.relation.specs.Rel.{nodes, inverse};
+ghost use Rattle.models.specs.Recording.{sameLocation, coStep};
+ghost use Rattle.models.specs.Graph.{base};
+ghost use Rattle.recording.specs.Layout.{events, Sized};
+ghost use Rattle.recording.specs.Chains.{each};
+ghost use Rattle.recording.specs.Decode.{decode};
+ghost use Rattle.recording.specs.Causes.{eventLegal, Readable};
+ghost use Rattle.recording.specs.Sets.{accessAt, membersOf};
+
+// Whether e is a read or write of location l.
+pub fn access_at(file: &[u8], e: usize, l: usize) -> bool
+    requires { ⌜ Sized (now file) ⌝ }
+    ensures { λ r. ⌜ r ≡ accessAt (now (file .entry)) l e ⌝ }
+{
+    field::is_access(file, e) && field::location_of(file, e) == l
+}
+
+pub fn is_member(file: &[u8], s: Members, e: usize) -> bool
+    requires { ⌜ Sized (now file) ⌝ }
+    ensures { λ r. ⌜ r ≡ membersOf (now (file .entry)) s e ⌝ }
+{
+    match s {
+        Members::Recorded => field::is_recorded(file, e),
+        Members::Initial => field::is_initial(file, e),
+        Members::Class(k) => field::of_class(file, e, k),
+        Members::Mode(k, m) => field::of_mode(file, e, k, m),
+        Members::Flagged(k) => field::is_flagged(file, e, k),
+        Members::At(l) => access_at(file, e, l),
+    }
+}
+
+// The events of s.
+pub fn members(file: &[u8], s: Members) -> [u8; 8]
+    requires { ⌜ Sized (now file) ⌝ }
+    ensures { λ r. ⌜ bit r ≡ membersOf (now (file .entry)) s ⌝ }
+{
+    let mut r = row::none();
+    let mut e: usize = 0;
+    while e < 64 {
+        if is_member(file, s, e) {
+            let z = row::with(r, e);
+            r = z;
+        }
+        e += 1;
+    }
+    r
+}
+
+// The event that directly follows a in its thread, if there is one.
+pub fn next_row(file: &[u8], a: usize) -> [u8; 8]
+    requires { ⌜ Sized (now file) ⌝ }
+    ensures { λ r. ⌜ bit r ≡ decode (now (file .entry)) .next a ⌝ }
+{
+    if !field::is_recorded(file, a) {
+        return row::none();
+    }
+    let b = field::event_byte(file, a, 0);
+    if !field::is_recorded(file, b) {
+        return row::none();
+    }
+    row::with(row::none(), b)
+}
+
+// Which event directly follows which.
+pub fn next(file: &[u8]) -> [[u8; 8]; 64]
+    requires { ⌜ Sized (now file) ⌝ }
+    ensures { λ r. ⌜ edge r ≡ decode (now (file .entry)) .next ⌝ }
+{
+    let mut h = grid::empty();
+    let mut a: usize = 0;
+    while a < 64 {
+        h[a] = next_row(file, a);
+        a += 1;
+    }
+    h
+}
+
+// Program order: every initial write before every recorded event, and earlier to later in a thread.
+pub fn program_order(file: &[u8]) -> [[u8; 8]; 64]
+    requires { ⌜ Sized (now file) ⌝ }
+    ensures { λ r. ⌜ edge r ≡ base nodes (decode (now (file .entry))) .po ⌝ }
+{
+    let first = grid::product(
+        members(file, Members::Initial),
+        members(file, Members::Recorded),
+    );
+    grid::or(first, grid::closure(next(file)))
+}
+
+// The sources of the links of type t into b, where b need be no event.
+pub fn sources_of(file: &[u8], b: usize, t: usize) -> [u8; 8]
+    requires { ⌜ Readable (now file) ⌝ }
+    ensures { λ r. ⌜ bit r ≡ inverse (decode (now (file .entry)) .link t) b ⌝ }
+{
+    if !field::is_recorded(file, b) {
+        return row::none();
+    }
+    links::sources(file, b, t)
+}
+
+// The links of type t, with a row for each target.
+pub fn link_rows(file: &[u8], t: usize) -> [[u8; 8]; 64]
+    requires { ⌜ Readable (now file) ⌝ }
+    ensures { λ r. ⌜ edge r ≡ inverse (decode (now (file .entry)) .link t) ⌝ }
+{
+    let mut h = grid::empty();
+    let mut b: usize = 0;
+    while b < 64 {
+        h[b] = sources_of(file, b, t);
+        b += 1;
+    }
+    h
+}
+
+// The links of type t.
+pub fn links(file: &[u8], t: usize) -> [[u8; 8]; 64]
+    requires { ⌜ Readable (now file) ⌝ }
+    ensures { λ r. ⌜ edge r ≡ decode (now (file .entry)) .link t ⌝ }
+{
+    grid::inverse(link_rows(file, t))
+}
+
+// The reads and writes of one location, for each of the first eight.
+pub fn same_location(file: &[u8]) -> [[u8; 8]; 64]
+    requires { ⌜ Sized (now file) × (each (events (now file)) (eventLegal (now file)) ≡ true) ⌝ }
+    ensures { λ r. ⌜ edge r ≡ sameLocation (decode (now (file .entry))) ⌝ }
+{
+    let mut h = grid::empty();
+    let mut l: usize = 0;
+    while l < 8 {
+        let s = members(file, Members::At(l));
+        let z = grid::or(h, grid::product(s, s));
+        h = z;
+        l += 1;
+    }
+    h
+}
+
+// What co follows from: its links, and initial before recorded writes of one location.
+pub fn co_steps(file: &[u8]) -> [[u8; 8]; 64]
+    requires { ⌜ Readable (now file) × (each (events (now file)) (eventLegal (now file)) ≡ true) ⌝ }
+    ensures { λ r. ⌜ edge r ≡ coStep (decode (now (file .entry))) ⌝ }
+{
+    let writes = row::and(
+        members(file, Members::Recorded),
+        members(file, Members::Class(2)),
+    );
+    let first = grid::product(members(file, Members::Initial), writes);
+    grid::or(links(file, 2), grid::and(first, same_location(file)))
+}
+
+// Coherence order.
+pub fn coherence(file: &[u8]) -> [[u8; 8]; 64]
+    requires { ⌜ Readable (now file) × (each (events (now file)) (eventLegal (now file)) ≡ true) ⌝ }
+    ensures { λ r. ⌜ edge r ≡ base nodes (decode (now (file .entry))) .co ⌝ }
+{
+    grid::closure(co_steps(file))
+}

@@ -19,3 +19,17 @@ pub enum Load {
     Refused(u8),
     Loaded(Header),
 }
+
+// A set of events, by what its members have in common.
+pub enum Members {
+    Recorded,
+    Initial,
+    // of a class
+    Class(usize),
+    // of a class and a mode
+    Mode(usize, usize),
+    // of a class, with flag 1
+    Flagged(usize),
+    // reads or writes of a location
+    At(usize),
+}

@@ -1,0 +1,243 @@
+-- Laws of the sets and relations of a file as rows and grids. Assumes nothing.
+use mathlib.Core.Path.{_≡_, refl, sym, ap, ap₂, subst, _∙_, fun-ext}
+use mathlib.Core.Bool.{Bool, true, false, not, _&&_, _||_, false≢true}
+use mathlib.Core.List.{List, [], _∷_}
+use mathlib.Core.Logic.{inl, inr}
+use Prim.Native.Nat.{ℕ, zero, suc, _+_, _-_, _<_, _≤_}
+use native.Mathlib.Numerals.{add-one}
+use native.Mathlib.Omega.{arith}
+use native.Mathlib.Decide.{ℕ-discrete, decLt}
+use borrow.Author.Tests.{eq-eqb, ne-eqb, eqb-true, lt-leb, le-ltb, ltb-true, leb-true}
+use lib.Dec.{eqb, leb, ltb}
+use Rattle.relation.specs.Rel.{Set, Rel, empty, none, single, union, intersection, product, inverse, either, both, some, below, plus, nodes}
+use Rattle.relation.proofs.Meaning.{Mem, and-left, and-right, and-both, or-either, or-left, or-right, some-sound, some-complete, mem-below, below-mem}
+use Rattle.relation.proofs.SetLaws.{or-comm, or-false, and-false}
+use Rattle.models.specs.Recording.{Recording, event, ofClass, ofMode, flagged, access, sameLocation, coStep}
+use Rattle.models.specs.Graph.{base}
+use Rattle.recording.specs.Layout.{events, locations, eventByte, Sized}
+use Rattle.recording.specs.Chains.{each, nextEvent}
+use Rattle.recording.specs.Decode.{isRecorded, isInitial, decode, recordOr, fieldOr}
+use Rattle.recording.specs.Causes.{legal, eventLegal, readLegal, writeLegal}
+use Rattle.recording.specs.Sets.{accessAt, membersOf}
+use Rattle.recording.specs.declared.Members.{Members}
+use Rattle.recording.specs.declared.Members.the-variants.{Recorded, Initial, Class, Mode, Flagged, At}
+use Rattle.recording.proofs.FieldLaws.{recorded-bounds, event-small, location-initial}
+use Rattle.recording.proofs.ChainLaws.{each-at}
+use Rattle.recording.proofs.LegalLaws.{next-first}
+
+-- A test that is true only of numbers below 64 is false from 64 on.
+refuted : (b : Bool) → (b ≡ true → ⊥) → b ≡ false
+refuted true d = absurd (d refl)
+refuted false d = refl
+
+pub recorded-out : (f : List ℕ) → Sized f → (e : ℕ) → 64 ≤ e → isRecorded f e ≡ false
+recorded-out f s e h = refuted (isRecorded f e) (λ p. let (a, b) = recorded-bounds f e p in omega (arith, s .most-events))
+
+initial-out : (f : List ℕ) → Sized f → (e : ℕ) → 64 ≤ e → isInitial f e ≡ false
+unfolding isInitial
+initial-out f s e h =
+    refuted (leb 56 e && ltb e (56 + locations f))
+    (λ p. let w = ltb-true e (56 + locations f) (and-right (leb 56 e) (ltb e (56 + locations f)) p) in omega (arith, s .most-locations))
+
+event-out : (f : List ℕ) → Sized f → (e : ℕ) → 64 ≤ e → event (decode f) e ≡ false
+event-out f s e h = refuted (event (decode f) e) (λ p. let w = event-small f e s p in omega arith)
+
+class-out : (f : List ℕ) → Sized f → (k e : ℕ) → 64 ≤ e → ofClass (decode f) k e ≡ false
+unfolding ofClass
+class-out f s k e h = rw (event-out f s e h)
+
+access-out : (f : List ℕ) → Sized f → (e : ℕ) → 64 ≤ e → access (decode f) e ≡ false
+unfolding access
+access-out f s e h = rw (class-out f s 1 e h, class-out f s 2 e h)
+
+pub members-out : (f : List ℕ) → Sized f → (s : Members) (e : ℕ) → 64 ≤ e → membersOf f s e ≡ false
+unfolding membersOf ofMode flagged accessAt
+members-out f z Recorded e h = recorded-out f z e h
+members-out f z Initial e h = initial-out f z e h
+members-out f z (Class k) e h = class-out f z k e h
+members-out f z (Mode k m) e h = rw (class-out f z k e h)
+members-out f z (Flagged k) e h = rw (class-out f z k e h)
+members-out f z (At l) e h = rw (access-out f z e h)
+
+-- Membership by cases.
+module _ (f : List ℕ) (s : Members) (e : ℕ) (b : Bool) where
+  of-case : (t : Members) → s ≡ t → b ≡ membersOf f t e → b ≡ membersOf f s e
+  of-case t p q = q ∙ ap (λ (u : Members). membersOf f u e) (sym p)
+
+  pub of-recorded : s ≡ Recorded → b ≡ isRecorded f e → b ≡ membersOf f s e
+  unfolding membersOf
+  of-recorded p q = of-case Recorded p q
+
+  pub of-initial : s ≡ Initial → b ≡ isInitial f e → b ≡ membersOf f s e
+  unfolding membersOf
+  of-initial p q = of-case Initial p q
+
+  pub of-class : (k : ℕ) → s ≡ Class k → b ≡ ofClass (decode f) k e → b ≡ membersOf f s e
+  unfolding membersOf
+  of-class k p q = of-case (Class k) p q
+
+  pub of-mode : (k m : ℕ) → s ≡ Mode k m → b ≡ ofMode (decode f) k m e → b ≡ membersOf f s e
+  unfolding membersOf
+  of-mode k m p q = of-case (Mode k m) p q
+
+  pub of-flagged : (k : ℕ) → s ≡ Flagged k → b ≡ flagged (decode f) k e → b ≡ membersOf f s e
+  unfolding membersOf
+  of-flagged k p q = of-case (Flagged k) p q
+
+  pub of-location : (l : ℕ) → s ≡ At l → b ≡ accessAt f l e → b ≡ membersOf f s e
+  unfolding membersOf
+  of-location l p q = of-case (At l) p q
+
+-- The row of the event that follows a.
+module _ (f : List ℕ) (a : ℕ) where
+  pub next-row-none : (s : Set) → s ≡ empty → isRecorded f a ≡ false → s ≡ decode f .next a
+  unfolding decode empty
+  next-row-none s e p = e ∙ fun-ext (λ x. rw p)
+
+  next-at : (b x : ℕ) → b ≡ eventByte f a 0 → isRecorded f a ≡ true → decode f .next a x ≡ isRecorded f x && eqb b x
+  unfolding decode
+  next-at b x e p = rw p (ap (λ (y : ℕ). isRecorded f x && eqb y x) (sym (e ∙ next-first f a)))
+
+  pub next-row-end : (b : ℕ) (s : Set) → s ≡ empty → b ≡ eventByte f a 0 → isRecorded f a ≡ true → isRecorded f b ≡ false → s ≡ decode f .next a
+  unfolding empty
+  next-row-end b s e q p o =
+      e ∙ fun-ext
+      (λ x. sym (next-at b x q p ∙ elim (ℕ-discrete b x) [
+        | yes i ↦ ap (λ (c : Bool). c && eqb b x) (ap (isRecorded f) (sym i) ∙ o)
+        | no d ↦ ap (λ (c : Bool). isRecorded f x && c) (ne-eqb b x d) ∙ and-false (isRecorded f x)
+      ]))
+
+  pub next-row-some : (b : ℕ) (s t : Set) → s ≡ empty → t ≡ union s (single b) → b ≡ eventByte f a 0 → isRecorded f a ≡ true → isRecorded f b ≡ true
+      → t ≡ decode f .next a
+  unfolding empty union single
+  next-row-some b s t e u q p o =
+      u ∙ fun-ext
+      (λ x. ap (λ (v : Set). v x || eqb b x) e ∙ sym (next-at b x q p ∙ elim (ℕ-discrete b x) [
+        | yes i ↦ ap (λ (c : Bool). c && eqb b x) (ap (isRecorded f) (sym i) ∙ o)
+        | no d ↦ ap (λ (c : Bool). isRecorded f x && c) (ne-eqb b x d) ∙ and-false (isRecorded f x) ∙ sym (ne-eqb b x d)
+      ]))
+
+pub next-out : (f : List ℕ) → Sized f → (a : ℕ) → 64 ≤ a → decode f .next a ≡ empty
+next-out f s a h = sym (next-row-none f a empty refl (recorded-out f s a h))
+
+-- The links into what is no record.
+pub link-none : (f : List ℕ) (t b : ℕ) (s : Set) → s ≡ empty → isRecorded f b ≡ false → s ≡ inverse (decode f .link t) b
+unfolding decode inverse empty
+link-none f t b s e p = e ∙ fun-ext (λ x. rw p)
+
+pub link-out : (f : List ℕ) → Sized f → (t b : ℕ) → 64 ≤ b → inverse (decode f .link t) b ≡ empty
+link-out f s t b h = sym (link-none f t b empty refl (recorded-out f s b h))
+
+-- Program order, as the code makes it.
+pub po-is : (f : List ℕ) (i e : Set) (a b c d : Rel) → i ≡ isInitial f → e ≡ isRecorded f → a ≡ product i e → c ≡ decode f .next → d ≡ plus nodes c
+    → b ≡ either a d → b ≡ base nodes (decode f) .po
+unfolding base decode product
+po-is f i e a b c d p q u v w o = o ∙ ap₂ either (u ∙ ap₂ product p q) (w ∙ ap (plus nodes) v)
+
+-- Same location, one location more at a time.
+unfoldable pub located : List ℕ → ℕ → Rel
+located f k a b = some (below k) (λ l. accessAt f l a && accessAt f l b)
+
+pub located-none : (f : List ℕ) → none ≡ located f 0
+unfolding located none empty some below
+located-none f = refl
+
+pub located-more : (f : List ℕ) (k : ℕ) (r s t : Rel) (u : Set) → r ≡ located f k → u ≡ accessAt f k → s ≡ product u u → t ≡ either r s → t ≡ located f (k + 1)
+unfolding located either union product some below
+located-more f k r s t u p q v w =
+    w ∙ fun-ext
+    (λ a. fun-ext
+    (λ b. ap₂ (λ (x y : Rel). x a b || y a b) p (v ∙ ap₂ product q q)
+    ∙ or-comm (some (below k) (λ l. accessAt f l a && accessAt f l b)) (accessAt f k a && accessAt f k b)
+    ∙ ap (λ (n : ℕ). some (below n) (λ l. accessAt f l a && accessAt f l b)) (sym (add-one k))))
+
+-- In a file whose events are legal, reads and writes have one of the first eight locations.
+legal-read-location : (k L class mode flag location value : ℕ) → class ≡ 1 → legal k L class mode flag location value ≡ true → location < L
+unfolding legal
+legal-read-location k L class mode flag location value e p =
+    ltb-true location L
+    (and-right (readLegal mode flag) (ltb location L) (subst (λ (c : ℕ). legal k L c mode flag location value ≡ true) e p))
+
+legal-write-location : (k L class mode flag location value : ℕ) → class ≡ 2 → legal k L class mode flag location value ≡ true → location < L
+unfolding legal
+legal-write-location k L class mode flag location value e p =
+    ltb-true location L
+    (and-right (writeLegal k mode flag) (ltb location L) (subst (λ (c : ℕ). legal k L c mode flag location value ≡ true) e p))
+
+class-is : (f : List ℕ) (k e : ℕ) → ofClass (decode f) k e ≡ true → decode f .class e ≡ k
+unfolding ofClass
+class-is f k e p = eqb-true (decode f .class e) k (and-right (event (decode f) e) (eqb (decode f .class e) k) p)
+
+class-event : (f : List ℕ) (k e : ℕ) → ofClass (decode f) k e ≡ true → event (decode f) e ≡ true
+unfolding ofClass
+class-event f k e p = and-left (event (decode f) e) (eqb (decode f .class e) k) p
+
+module _ (f : List ℕ) (s : Sized f) (legal-events : each (events f) (eventLegal f) ≡ true) where
+  recorded-legal : (e : ℕ) → isRecorded f e ≡ true → eventLegal f e ≡ true
+  recorded-legal e p = let (a, b) = recorded-bounds f e p in each-at (events f) (eventLegal f) legal-events e a b
+
+  initial-location : (e : ℕ) → isInitial f e ≡ true → decode f .location e < locations f
+  unfolding isInitial
+  initial-location e p =
+      let h = leb-true 56 e (and-left (leb 56 e) (ltb e (56 + locations f)) p) in
+      let g = ltb-true e (56 + locations f) (and-right (leb 56 e) (ltb e (56 + locations f)) p) in
+      let q = location-initial f e h in
+      omega arith
+
+  class-location : (k e : ℕ) → ofClass (decode f) k e ≡ true → (isRecorded f e ≡ true → decode f .location e < locations f) → decode f .location e < locations f
+  unfolding event decode
+  class-location k e p g =
+      elim (or-either (isInitial f e) (isRecorded f e) (class-event f k e p)) [ inl q ↦ initial-location e q | inr q ↦ g q ]
+
+  pub access-location : (e : ℕ) → access (decode f) e ≡ true → decode f .location e < 8
+  unfolding access eventLegal
+  access-location e p =
+      elim (or-either (ofClass (decode f) 1 e) (ofClass (decode f) 2 e) p) [
+        | inl q ↦ let w = class-location 1 e q (λ r. legal-read-location _ _ _ _ _ _ _ (class-is f 1 e q) (recorded-legal e r)) in omega (arith, s .most-locations)
+        | inr q ↦ let w = class-location 2 e q (λ r. legal-write-location _ _ _ _ _ _ _ (class-is f 2 e q) (recorded-legal e r)) in omega (arith, s .most-locations)
+      ]
+
+  pub located-all : (k : ℕ) (r : Rel) → 8 ≤ k → r ≡ located f k → r ≡ sameLocation (decode f)
+  unfolding located sameLocation accessAt
+  located-all k r h p = p ∙ fun-ext (λ a. fun-ext (λ b. same-bool _ _ (one-way a b) (other-way a b)))
+    where
+      same-bool : (x y : Bool) → (x ≡ true → y ≡ true) → (y ≡ true → x ≡ true) → x ≡ y
+      same-bool true y u v = sym (u refl)
+      same-bool false true u v = v refl
+      same-bool false false u v = refl
+
+      one-way : (a b : ℕ) → some (below k) (λ l. accessAt f l a && accessAt f l b) ≡ true → sameLocation (decode f) a b ≡ true
+      one-way a b q =
+          let (l, m, w) = some-sound (below k) (λ i. accessAt f i a && accessAt f i b) q in
+          let u = and-left (accessAt f l a) (accessAt f l b) w in
+          let v = and-right (accessAt f l a) (accessAt f l b) w in
+          let x = eqb-true (decode f .location a) l (and-right (access (decode f) a) (eqb (decode f .location a) l) u) in
+          let y = eqb-true (decode f .location b) l (and-right (access (decode f) b) (eqb (decode f .location b) l) v) in
+          and-both (access (decode f) a && access (decode f) b) (eqb (decode f .location a) (decode f .location b))
+          (and-both (access (decode f) a) (access (decode f) b) (and-left (access (decode f) a) _ u) (and-left (access (decode f) b) _ v))
+          (eq-eqb (decode f .location a) (decode f .location b) (x ∙ sym y))
+
+      other-way : (a b : ℕ) → sameLocation (decode f) a b ≡ true → some (below k) (λ l. accessAt f l a && accessAt f l b) ≡ true
+      other-way a b q =
+          let l : ℕ = decode f .location a in
+          let u = and-left (access (decode f) a && access (decode f) b) (eqb (decode f .location a) (decode f .location b)) q in
+          let e = eqb-true (decode f .location a) (decode f .location b) (and-right (access (decode f) a && access (decode f) b) _ q) in
+          let x = and-left (access (decode f) a) (access (decode f) b) u in
+          let y = and-right (access (decode f) a) (access (decode f) b) u in
+          let w = access-location a x in
+          some-complete (below k) (λ i. accessAt f i a && accessAt f i b) l (mem-below k l (omega arith))
+          (and-both (accessAt f l a) (accessAt f l b) (and-both (access (decode f) a) (eqb l l) x (eq-eqb l l refl))
+          (and-both (access (decode f) b) (eqb (decode f .location b) l) y (eq-eqb (decode f .location b) l (sym e))))
+
+-- What co follows from, as the code makes it.
+pub co-is : (f : List ℕ) (i e w u : Set) (a c d b g : Rel) → e ≡ isRecorded f → w ≡ ofClass (decode f) 2 → u ≡ intersection e w → i ≡ isInitial f
+    → a ≡ product i u → c ≡ decode f .link 2 → d ≡ sameLocation (decode f) → g ≡ both a d → b ≡ either c g → b ≡ coStep (decode f)
+unfolding either union both intersection product coStep decode
+co-is f i e w u a c d b g pe pw pu pi pa pc pd pg pb =
+    let q : a ≡ product (isInitial f) (intersection (isRecorded f) (ofClass (decode f) 2)) = pa ∙ ap₂ product pi (pu ∙ ap₂ intersection pe pw) in
+    pb ∙ ap₂ either pc (pg ∙ ap₂ both q pd)
+    ∙ fun-ext (λ x. fun-ext (λ y. ap (λ (z : Bool). decode f .link 2 x y || z) (regroup (isInitial f x) (isRecorded f y) (ofClass (decode f) 2 y) (sameLocation (decode f) x y))))
+  where
+    regroup : (k l m n : Bool) → (k && (l && m)) && n ≡ ((k && l) && m) && n
+    regroup true l m n = refl
+    regroup false l m n = refl

@@ -1,0 +1,63 @@
+-- `graph::link_rows` meets its contract, row by row. Assumes nothing.
+use mathlib.Core.Path.{_≡_}
+use Prim.Native.Nat.{ℕ, _-_, _≤_}
+use Rattle.relation.specs.Rel.{none, inverse}
+use Rattle.relation.proofs.GridLaws.{Rows, rows-none-of, rows-set, rows-all}
+use Rattle.recording.specs.Causes.{Readable}
+use Rattle.recording.specs.Decode.{decode}
+use Rattle.recording.proofs.GraphLaws.{link-out}
+use borrow.Author.Needs.{needs}
+use Rattle.recording.proofs.graph.link_rows.Statement.{statement}
+use Rattle.recording.proofs.graph.link_rows.Tie as tie
+
+abbrev Inv-loop : tie.InvT-loop
+Inv-loop file t h₀ b₀ h b = (b ≤ 64) × Readable file × Rows (inverse (decode file .link t)) none h b
+
+abbrev μ-loop : tie.MeasureT-loop
+μ-loop file t h₀ b₀ h b = 64 - b
+
+empty-requires : tie.Need-empty-requires Inv-loop μ-loop
+empty-requires c κs = search needs
+
+loop-holds : tie.Need-loop-holds Inv-loop μ-loop
+loop-holds c = (search needs, c .before .before .pre, rows-none-of _ _ _ (search needs) (c .empty .ensures))
+
+sources-of-requires : tie.Need-sources-of-requires Inv-loop μ-loop
+sources-of-requires c κs = c .before .loop .inv .1
+
+mul-h : tie.Need-mul-h Inv-loop μ-loop
+mul-h c = search needs
+
+array-set-from-h : tie.Need-array-set-from-h Inv-loop μ-loop
+array-set-from-h c = search needs
+
+add-b : tie.Need-add-b Inv-loop μ-loop
+add-b c = search needs
+
+loop-less : tie.Need-loop-less Inv-loop μ-loop
+loop-less c = search needs
+
+loop-again : tie.Need-loop-again Inv-loop μ-loop
+loop-again c =
+    let turn = c .before in
+    let inv = turn .before .loop .inv in
+    (search needs, inv .1, rows-set _ _ _ _ _ (inv .2) (turn .loop-test .taken) (c .sources-of .ensures))
+
+returns : tie.Need-returns Inv-loop μ-loop
+returns c = rows-all _ _ _ _ (c .loop-test .left) (c .before .loop .inv .2) (link-out _ (c .before .loop .inv .1 .sized) _)
+
+pub link-rows-spec : {M : Type 1} → statement M
+link-rows-spec =
+    tie.close
+    (tie.spec
+    Inv-loop
+    μ-loop
+    empty-requires
+    loop-holds
+    sources-of-requires
+    mul-h
+    array-set-from-h
+    add-b
+    loop-less
+    loop-again
+    returns)
