@@ -4,3 +4,4 @@ pub mod ChainLaws
 pub mod LegalLaws
 pub mod LinkLaws
 pub mod GraphLaws
+pub mod CauseLaws

@@ -2,7 +2,7 @@
 -- Assumes nothing.
 use mathlib.Core.Path.{_≡_}
 use mathlib.Core.Bool.{Bool, true, false, _&&_, _||_, not}
-use mathlib.Core.List.{List, [], _∷_}
+use mathlib.Core.List.{List, [], _∷_, _++_}
 use Prim.Native.Nat.{ℕ, _≤_}
 use lib.Dec.{eqb, leb, ltb}
 use lib.ListN.{length, getD}
@@ -13,6 +13,10 @@ use Rattle.models.specs.Rules.{first}
 use Rattle.recording.specs.Layout.{kind, events, locations, links, kindKnown, isSource, mostEvents, mostLocations, mostLinks, headerSize, fullLength, linkByte, Sized}
 use Rattle.recording.specs.Chains.{each, threadsSound, linksSound, linksInto}
 use Rattle.recording.specs.Decode.{decode}
+
+-- 3. The limits by kind.
+unfoldable pub headerOver : ℕ → ℕ → ℕ → ℕ → Bool
+headerOver k n l m = ltb (mostEvents k) n || (ltb mostLocations l || ltb (mostLinks k) m)
 
 -- 5. The table of classes, modes and flags by kind.
 unfoldable pub readLegal : ℕ → ℕ → Bool
@@ -120,7 +124,7 @@ module _ (f : List ℕ) where
 
   -- 3 N, L or M over its limit
   unfoldable pub overLimit : Bool
-  overLimit = ltb (mostEvents (kind f)) (events f) || ltb mostLocations (locations f) || ltb (mostLinks (kind f)) (links f)
+  overLimit = headerOver (kind f) (events f) (locations f) (links f)
 
   -- 4 length not 8 + 8 times N + 4 times M
   unfoldable pub wrongLength : Bool
@@ -150,11 +154,16 @@ module _ (f : List ℕ) where
   unfoldable pub unpaired : Bool
   unpaired = not (each (events f) (pairedAt f))
 
+  -- In order: those of the header and the length, then those of the records.
+  unfoldable pub headerCauses : List Bool
+  headerCauses = tooShort ∷ kindUnknown ∷ overLimit ∷ wrongLength ∷ []
+
+  unfoldable pub bodyCauses : List Bool
+  bodyCauses = badEvent ∷ badThreads ∷ badChains ∷ badLink ∷ coRing ∷ unpaired ∷ []
+
   -- The first cause that applies, and 0 where none does.
   unfoldable pub refusal : ℕ
-  refusal =
-      first 1
-      (tooShort ∷ kindUnknown ∷ overLimit ∷ wrongLength ∷ badEvent ∷ badThreads ∷ badChains ∷ badLink ∷ coRing ∷ unpaired ∷ [])
+  refusal = first 1 (headerCauses ++ bodyCauses)
 
 -- The rest says what the functions that read links ask for.
 
@@ -170,3 +179,8 @@ readable f m = within f m && ltb (linkByte f m 2) 64
 pub record Readable (f : List ℕ) : Type 0 where
   pub sized : Sized f
   pub chains : (b : ℕ) → 1 ≤ b → b ≤ events f → allOf (linksInto f b) (readable f) ≡ true
+
+-- Every link of the file lies within it.
+pub record Chained (f : List ℕ) : Type 0 where
+  pub sized : Sized f
+  pub chains : (b : ℕ) → 1 ≤ b → b ≤ events f → allOf (linksInto f b) (within f) ≡ true

@@ -1,5 +1,6 @@
 // Recordings: loading a file exactly when no cause of refusal applies, and reading what a loaded file holds.
 
+pub mod causes;
 pub mod chain;
 pub mod field;
 pub mod graph;

@@ -1,0 +1,34 @@
+-- `causes::one_source` meets its contract: no source is left without the least. Assumes nothing.
+use mathlib.Core.Path.{ap, _∙_}
+use Prim.Native.Nat.{ℕ, _≤_}
+use native.Mathlib.Omega.{arith}
+use lib.Dec.{eqb}
+use Rattle.recording.proofs.CauseLaws.{alone, alone-with}
+use borrow.Author.Needs.{needs}
+use Rattle.recording.proofs.causes.one_source.Statement.{statement}
+use Rattle.recording.proofs.causes.one_source.Tie as tie
+
+sources-requires : tie.Need-sources-requires
+sources-requires c κs = search needs
+
+first-requires : tie.Need-first-requires
+first-requires c κs = search needs
+
+returns : tie.Need-returns
+returns c = alone _ _ _ (c .before .before .sources .ensures) (omega (arith, c .before .first .ensures, c .if1 .taken))
+
+without-requires : tie.Need-without-requires
+without-requires c κs = search needs
+
+first-requires-2 : tie.Need-first-requires-2
+first-requires-2 c κs = search needs
+
+returns-2 : tie.Need-returns-2
+returns-2 c =
+    ap (λ (y : ℕ). eqb y 64) (c .first2 .ensures)
+    ∙ alone-with _ _ _ _ _ (c .before .before .before .before .sources .ensures) (c .before .before .before .first .ensures) (c .before .before .if1 .left) (c .before .without .ensures)
+
+pub one-source-spec : {M : Type 1} → statement M
+one-source-spec =
+    tie.close
+    (tie.spec sources-requires first-requires returns without-requires first-requires-2 returns-2)

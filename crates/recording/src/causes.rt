@@ -1,0 +1,235 @@
+// The causes of refusal, tried from the first down to number 10, and loading.
+
+use crate::Header;
+use crate::Load;
+use crate::chain;
+use crate::field;
+use crate::graph;
+use crate::legal;
+use crate::links;
+use relation::grid;
+use relation::row;
+ghost use mathlib.Core.Path.{_≡_};
+ghost use mathlib.Core.Bool.{true, not};
+ghost use mathlib.Core.List.{List, [], _∷_};
+ghost use Prim.Native.Nat.{ℕ, _≤_, _<_};
+ghost use lib.ListN.{length};
+ghost use Rattle.relation.specs.Bits.{bit, edge};
+ghost use Rattle.relation.specs.Rel.{nodes, inverse};
+ghost use Rattle.models.specs.Graph.{base};
+ghost use Rattle.models.specs.Rules.{first};
+ghost use Rattle.recording.specs.Layout.{kind, events, locations, links, kindKnown, mostEvents, mostLinks, Sized};
+ghost use Rattle.recording.specs.Chains.{each, linksInto};
+ghost use Rattle.recording.specs.Decode.{decode};
+ghost use Rattle.recording.specs.Causes.{allOf, within, readable, Readable, oneSource, linksSoundAt, pairedAt, eventLegal, Chained, headerOver, headerCauses, bodyCauses, badThreads, badChains, coRing};
+ghost use Rattle.recording.specs.Load.{headerOf, loadOf};
+
+// Whether b has at most one rf source.
+pub fn one_source(file: &[u8], b: usize) -> bool
+    requires { ⌜ Sized (now file) × (1 ≤ b) × (b ≤ events (now file)) × (allOf (linksInto (now file) b) (readable (now file)) ≡ true) ⌝ }
+    ensures { λ r. ⌜ r ≡ oneSource (decode (now (file .entry))) b ⌝ }
+{
+    let s = links::sources(file, b, 1);
+    let x = row::first(s);
+    if 64 <= x {
+        return true;
+    }
+    row::first(row::without(s, x)) == 64
+}
+
+// Whether the links into b are sound, and b has one rf source, where po is program order.
+pub fn sound_at(file: &[u8], po: [[u8; 8]; 64], b: usize) -> bool
+    requires { ⌜ Chained (now file) × (edge po ≡ base nodes (decode (now file)) .po) × (1 ≤ b) × (b ≤ events (now file)) ⌝ }
+    ensures { λ r. ⌜ r ≡ linksSoundAt (now (file .entry)) b ⌝ }
+{
+    links::sound_into(file, po, b) && one_source(file, b)
+}
+
+// Whether all links are sound.
+pub fn links_sound(file: &[u8], po: [[u8; 8]; 64]) -> bool
+    requires { ⌜ Chained (now file) × (edge po ≡ base nodes (decode (now file)) .po) ⌝ }
+    ensures { λ r. ⌜ r ≡ each (events (now (file .entry))) (linksSoundAt (now (file .entry))) ⌝ }
+{
+    let n = field::events(file);
+    let mut b: usize = 0;
+    while b < n {
+        b += 1;
+        if !sound_at(file, po, b) {
+            return false;
+        }
+    }
+    true
+}
+
+// Whether e is no strong write, or has an rmw.
+pub fn paired_at(file: &[u8], e: usize) -> bool
+    requires { ⌜ Readable (now file) ⌝ }
+    ensures { λ r. ⌜ r ≡ pairedAt (now (file .entry)) e ⌝ }
+{
+    if !field::is_flagged(file, e, 2) {
+        return true;
+    }
+    row::first(graph::sources_of(file, e, 3)) < 64
+}
+
+// Whether every strong write has an rmw.
+pub fn paired(file: &[u8]) -> bool
+    requires { ⌜ Readable (now file) ⌝ }
+    ensures { λ r. ⌜ r ≡ each (events (now (file .entry))) (pairedAt (now (file .entry))) ⌝ }
+{
+    let n = field::events(file);
+    let mut e: usize = 0;
+    while e < n {
+        e += 1;
+        if !paired_at(file, e) {
+            return false;
+        }
+    }
+    true
+}
+
+// Whether co leads back to its start.
+pub fn co_ring(file: &[u8]) -> bool
+    requires { ⌜ Readable (now file) × (each (events (now file)) (eventLegal (now file)) ≡ true) ⌝ }
+    ensures { λ r. ⌜ r ≡ coRing (now (file .entry)) ⌝ }
+{
+    row::first(grid::diagonal(graph::coherence(file))) < 64
+}
+
+// Whether the thread chains meet every event once.
+pub fn threads_sound(file: &[u8]) -> bool
+    requires { ⌜ Sized (now file) ⌝ }
+    ensures { λ r. ⌜ not r ≡ badThreads (now (file .entry)) ⌝ }
+{
+    let n = field::events(file);
+    chain::once_each(file, 4, 1, 4, 8, 8, n)
+}
+
+// Whether the event chains meet every link once.
+pub fn chains_sound(file: &[u8]) -> bool
+    requires { ⌜ Sized (now file) ⌝ }
+    ensures { λ r. ⌜ not r ≡ badChains (now (file .entry)) ⌝ }
+{
+    let n = field::events(file);
+    let m = field::links(file);
+    chain::once_each(file, 15, 8, n, 8 + 8 * n, 4, m)
+}
+
+// The first of causes 5 to 10 that applies, or 0.
+pub fn body_refusal(file: &[u8]) -> u8
+    requires { ⌜ Sized (now file) ⌝ }
+    ensures { λ r. ⌜ r ≡ first 5 (bodyCauses (now (file .entry))) ⌝ }
+{
+    if !legal::events_legal(file) {
+        return 5;
+    }
+    if !threads_sound(file) {
+        return 6;
+    }
+    if !chains_sound(file) {
+        return 7;
+    }
+    if !links_sound(file, graph::program_order(file)) {
+        return 8;
+    }
+    if co_ring(file) {
+        return 9;
+    }
+    if !paired(file) {
+        return 10;
+    }
+    0
+}
+
+pub fn known(kind: usize) -> bool
+    ensures { λ r. ⌜ r ≡ kindKnown kind ⌝ }
+{
+    kind == 1 || kind == 2
+}
+
+pub fn most_events(kind: usize) -> usize
+    ensures { λ r. ⌜ r ≡ mostEvents kind ⌝ }
+{
+    if legal::is_source(kind) {
+        return 32;
+    }
+    48
+}
+
+pub fn most_links(kind: usize) -> usize
+    ensures { λ r. ⌜ r ≡ mostLinks kind ⌝ }
+{
+    if legal::is_source(kind) {
+        return 200;
+    }
+    255
+}
+
+// The header's numbers.
+pub fn header(file: &[u8]) -> Header
+    requires { ⌜ 8 ≤ length (now file) ⌝ }
+    ensures { λ r. ⌜ (r ≡ headerOf (now (file .entry))) × (r .events < 256) × (r .links < 256) ⌝ }
+{
+    Header {
+        kind: file[0] as usize,
+        events: file[1] as usize,
+        locations: file[2] as usize,
+        links: file[3] as usize,
+    }
+}
+
+// Whether N, L or M is over its limit.
+pub fn over_limit(h: Header) -> bool
+    ensures { λ r. ⌜ r ≡ headerOver (h .kind) (h .events) (h .locations) (h .links) ⌝ }
+{
+    let kind = h.kind;
+    let n = h.events;
+    let l = h.locations;
+    let m = h.links;
+    if most_events(kind) < n {
+        return true;
+    }
+    if 8 < l {
+        return true;
+    }
+    most_links(kind) < m
+}
+
+// The first of causes 1 to 4 that applies, or 0.
+pub fn header_refusal(file: &[u8]) -> u8
+    ensures cause { λ r. ⌜ r ≡ first 1 (headerCauses (now (file .entry))) ⌝ }
+    ensures sized { λ r. ⌜ (r ≡ 0 → Sized (now (file .entry))) ⌝ }
+{
+    if file.len() < 8 {
+        return 1;
+    }
+    let h = header(file);
+    let kind = h.kind;
+    if !known(kind) {
+        return 2;
+    }
+    if over_limit(h) {
+        return 3;
+    }
+    let n = h.events;
+    let m = h.links;
+    if file.len() != 8 + 8 * n + 4 * m {
+        return 4;
+    }
+    0
+}
+
+// Loads a file: refused with the number of the first cause that applies, or loaded with its header.
+pub fn load(file: &[u8]) -> Load
+    ensures { λ r. ⌜ r ≡ loadOf (now (file .entry)) ⌝ }
+{
+    let k = header_refusal(file);
+    if k != 0 {
+        return Load::Refused(k);
+    }
+    let j = body_refusal(file);
+    if j != 0 {
+        return Load::Refused(j);
+    }
+    Load::Loaded(header(file))
+}
