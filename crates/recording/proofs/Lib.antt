@@ -5,3 +5,8 @@ pub mod LegalLaws
 pub mod LinkLaws
 pub mod GraphLaws
 pub mod CauseLaws
+pub mod Truth
+pub mod ChainFacts
+pub mod Accepted
+pub mod Loaded
+pub mod Longest
