@@ -19,7 +19,7 @@ use Rattle.recording.specs.Layout.{kind, events, locations, links, linkB
 use Rattle.recording.specs.Chains.{each, among, follow, chain, met, fresh, pushed, onceEach, nextOf, startOf, nextLink, firstLink, linksInto, threadsSound, linksSound}
 use Rattle.recording.specs.Decode.{decode}
 use Rattle.recording.specs.Causes.{allOf, within, readable, Chained, Readable, rfLegal, coLegal, rmwLegal, fromRead, dataLegal, addrLegal, ctrlLegal, casdepLegal, linkLegal, linkSound, oneSource, linksSoundAt, pairedAt, headerOver, eventLegal, tooShort, kindUnknown, overLimit, wrongLength, badEvent, badThreads, badChains, badLink, coRing, unpaired, headerCauses, bodyCauses, refusal}
-use Rattle.recording.specs.Load.{headerOf, answer, loadOf}
+use Rattle.recording.specs.Load.{headerOf, answer, loadOf, numberOf, causeFor}
 use Rattle.recording.specs.declared.Header.{Header}
 use Rattle.recording.specs.declared.Load.{Load}
 use Rattle.recording.specs.declared.Load.the-variants.{Refused, Loaded}
@@ -390,3 +390,54 @@ module _ (f : List ℕ) where
 
 pub sized-8 : (f : List ℕ) → Sized f → 8 ≤ length f
 sized-8 f s = omega (arith, s .long)
+
+-- What an answer says of the file.
+answer-loaded : (n : ℕ) (h k : Header) → answer n h ≡ Loaded k → (n ≡ 0) × (k ≡ h)
+unfolding answer
+answer-loaded zero h k p = (refl, cc)
+answer-loaded (suc n) h k p = absurd (let z : _≡_ {A = ℕ} 0 1 = cc in omega arith)
+
+answer-refused : (n x : ℕ) (h : Header) → answer n h ≡ Refused x → (n ≡ x) × (n ≡ 0 → ⊥)
+unfolding answer
+answer-refused zero x h p = absurd (let z : _≡_ {A = ℕ} 0 1 = cc in omega arith)
+answer-refused (suc n) x h p = (cc, λ e. omega arith)
+
+pub loaded-answer : (f : List ℕ) (a : Load) (k : Header) → a ≡ loadOf f → a ≡ Loaded k → (refusal f ≡ 0) × (k ≡ headerOf f)
+unfolding loadOf
+loaded-answer f a k p q = answer-loaded (refusal f) (headerOf f) k (sym p ∙ q)
+
+cause-at : (k n : ℕ) (f : List ℕ) → refusal f ≡ n → (n ≡ 0 → ⊥) → n ≡ causeFor k f
+unfolding causeFor
+cause-at k zero f p d = absurd (d refl)
+cause-at k (suc n) f p d = rw (p, causeFor)
+
+pub cause-refused : (k n x : ℕ) (f : List ℕ) (a : Load) → a ≡ loadOf f → a ≡ Refused x → n ≡ numberOf a → n ≡ causeFor k f
+unfolding loadOf numberOf
+cause-refused k n x f a p q e =
+    let (u, v) = answer-refused (refusal f) x (headerOf f) (sym p ∙ q) in
+    e ∙ ap numberOf q ∙ sym u ∙ cause-at k (refusal f) f refl v
+
+pub cause-other : (k : ℕ) (f : List ℕ) (a : Load) (h : Header) → a ≡ loadOf f → a ≡ Loaded h → (h .kind ≡ k → ⊥) → 11 ≡ causeFor k f
+unfolding causeFor
+cause-other k f a h p q d =
+    let (u, v) = loaded-answer f a h p q in
+    rw (u, causeFor) (rw (ne-eqb (kind f) k (λ e. d (ap (λ (x : Header). x .kind) v ∙ e))))
+
+pub cause-none : (k : ℕ) (f : List ℕ) (a : Load) (h : Header) → a ≡ loadOf f → a ≡ Loaded h → h .kind ≡ k → 0 ≡ causeFor k f
+unfolding causeFor
+cause-none k f a h p q e =
+    let (u, v) = loaded-answer f a h p q in
+    rw (u, causeFor) (rw (eq-eqb (kind f) k (sym (ap (λ (x : Header). x .kind) v) ∙ e)))
+
+-- A call that goes on has a file that loads and is of its kind.
+pub cause-goes-on : (k : ℕ) (f : List ℕ) → causeFor k f ≡ 0 → (refusal f ≡ 0) × (kind f ≡ k)
+unfolding causeFor
+cause-goes-on k f p = by-refusal (refusal f) refl
+  where
+    by-kind : refusal f ≡ 0 → (b : Bool) → eqb (kind f) k ≡ b → kind f ≡ k
+    by-kind e true q = eqb-true (kind f) k q
+    by-kind e false q = absurd (let z : 11 ≡ 0 = sym (rw (e, causeFor) (rw q)) ∙ p in omega arith)
+
+    by-refusal : (n : ℕ) → refusal f ≡ n → (refusal f ≡ 0) × (kind f ≡ k)
+    by-refusal zero e = (e, by-kind e (eqb (kind f) k) refl)
+    by-refusal (suc n) e = absurd (let z : suc n ≡ 0 = sym (rw (e, causeFor)) ∙ p in omega arith)

@@ -20,11 +20,11 @@ use Rattle.models.proofs.Tests.{or-cases, below-listed, plus-one, plus-join, pl
 use Rattle.recording.specs.Layout.{kind, isSource, events, locations, threads, firstInitial, Sized}
 use Rattle.recording.specs.Chains.{among, chain, met, fresh, each, onceEach, nextEvent, head, threadsSound, linksInto}
 use Rattle.recording.specs.Decode.{isRecorded, isInitial, decode, fieldOr}
-use Rattle.recording.specs.Causes.{legal as legalNumbers, eventLegal, rfLegal, coLegal, rmwLegal, fromRead, dataLegal, addrLegal, ctrlLegal, casdepLegal, linkLegal, oneSource, sameLocations, coRing, pairedAt, unpaired, linkSound, allOf, refusal}
+use Rattle.recording.specs.Causes.{legal as legalNumbers, eventLegal, rfLegal, coLegal, rmwLegal, fromRead, dataLegal, addrLegal, ctrlLegal, casdepLegal, linkLegal, oneSource, sameLocations, coRing, pairedAt, unpaired, linkSound, allOf, Readable, refusal}
 use Rattle.recording.proofs.Truth.{is-true, holds}
 use Rattle.recording.proofs.FieldLaws.{recorded-bounds, recorded-is, field-initial, event-small}
 use Rattle.recording.proofs.ChainLaws.{each-at}
-use Rattle.recording.proofs.CauseLaws.{source-event}
+use Rattle.recording.proofs.CauseLaws.{source-event, chained, readable-of, legal-of}
 use Rattle.recording.proofs.ChainFacts.{Ended, end, step, among-cases, chain-ended, met-cases, one-chain}
 use Rattle.recording.proofs.Accepted.{Accepted, accepted, sized, legal-event, threads-sound, links-legal, legal-link}
 
@@ -404,3 +404,13 @@ loads f p = accepted-loads f (accepted f p)
 
 pub loaded-within : (f : List ℕ) → refusal f ≡ 0 → Within nodes (decode f)
 loaded-within f p = accepted-within f (accepted f p)
+
+-- What the functions that read a loaded file ask for.
+pub loaded-sized : (f : List ℕ) → refusal f ≡ 0 → Sized f
+loaded-sized f p = sized f (accepted f p)
+
+pub loaded-readable : (f : List ℕ) → refusal f ≡ 0 → Readable f
+loaded-readable f p = (let a = accepted f p in readable-of f (chained f (sized f a) (a .cause7)) (a .cause8))
+
+pub loaded-legal : (f : List ℕ) → refusal f ≡ 0 → each (events f) (eventLegal f) ≡ true
+loaded-legal f p = legal-of f (accepted f p .cause5)

@@ -22,7 +22,7 @@ ghost use Rattle.recording.specs.Layout.{kind, events, locations, links,
 ghost use Rattle.recording.specs.Chains.{each, linksInto};
 ghost use Rattle.recording.specs.Decode.{decode};
 ghost use Rattle.recording.specs.Causes.{allOf, within, readable, Readable, oneSource, linksSoundAt, pairedAt, eventLegal, Chained, headerOver, headerCauses, bodyCauses, badThreads, badChains, coRing};
-ghost use Rattle.recording.specs.Load.{headerOf, loadOf};
+ghost use Rattle.recording.specs.Load.{headerOf, loadOf, numberOf, causeFor};
 
 // Whether b has at most one rf source.
 pub fn one_source(file: &[u8], b: usize) -> bool
@@ -232,4 +232,29 @@ pub fn load(file: &[u8]) -> Load
         return Load::Refused(j);
     }
     Load::Loaded(header(file))
+}
+
+// The number of a refusal.
+pub fn number(answer: Load) -> u8
+    ensures { λ r. ⌜ r ≡ numberOf answer ⌝ }
+{
+    match answer {
+        Load::Refused(k) => k,
+        Load::Loaded(_) => 0,
+    }
+}
+
+// The number that a call meant for files of this kind gives, or 0 where the file loads and is of this kind.
+pub fn cause(file: &[u8], kind: usize) -> u8
+    ensures { λ r. ⌜ r ≡ causeFor kind (now (file .entry)) ⌝ }
+{
+    let answer = load(file);
+    let Load::Loaded(h) = answer else {
+        return number(answer);
+    };
+    let k = h.kind;
+    if k != kind {
+        return 11;
+    }
+    0
 }

@@ -1,0 +1,26 @@
+-- `ob::aob` meets its contract: its definition, call by call. Assumes nothing.
+use Rattle.models.specs.Term.{eval}
+use Rattle.verdict.proofs.ChainLaws.{between}
+use borrow.Author.Needs.{needs}
+use Rattle.armv8.proofs.ob.aob.Statement.{statement}
+use Rattle.armv8.proofs.ob.aob.Tie as tie
+
+image-requires : tie.Need-image-requires
+image-requires c κs = search needs
+
+into-requires : tie.Need-into-requires
+into-requires c κs = search needs
+
+from-requires : tie.Need-from-requires
+from-requires c κs = search needs
+
+or-requires : tie.Need-or-requires
+or-requires c κs = search needs
+
+returns : tie.Need-returns
+unfolding eval
+returns c =
+    λ B e q m i. cc (between _ _ _ _ _ (c .before .before .into .ensures) (c .before .from .ensures))
+
+pub aob-spec : {M : Type 1} → statement M
+aob-spec = tie.close (tie.spec image-requires into-requires from-requires or-requires returns)

@@ -1,0 +1,2 @@
+-- The definitions that the contracts of `armv8` cite.
+pub mod Judged

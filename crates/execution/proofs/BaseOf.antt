@@ -1,0 +1,51 @@
+-- The arrays of a recording hold its base. Assumes nothing.
+use mathlib.Core.Path.{_≡_, sym, ap, subst, _∙_}
+use mathlib.Core.List.{List}
+use Prim.Native.Nat.{ℕ, suc}
+use native.Mathlib.Omega.{arith}
+use Rattle.relation.specs.Rel.{nodes}
+use Rattle.models.specs.Recording.{Recording, SetName}
+use Rattle.models.specs.Graph.{Base, base}
+use Rattle.recording.specs.Decode.{decode}
+use Rattle.recording.specs.Load.{causeFor}
+use Rattle.verdict.specs.Answer.{refuses}
+use Rattle.verdict.specs.declared.Verdict.{Verdict}
+use Rattle.verdict.specs.Base.{baseOf}
+use Rattle.execution.specs.Arrays.{SetsOf, RelationsOf}
+use Rattle.execution.specs.OnFile.{OnFile}
+
+pub base-of : (r : Recording ℕ) (sets : List (List ℕ)) (relations : List (List (List ℕ))) → SetsOf r sets → RelationsOf (base nodes r) relations
+    → baseOf sets relations ≡ base nodes r
+unfolding baseOf base
+base-of r sets relations s t =
+    λ i. record {
+      E = s .events i;
+      Init = s .initial i;
+      set = λ n. s .named n i;
+      loc = t .loc i;
+      po = t .po i;
+      rf = t .rf i;
+      co = t .co i;
+      rmw = t .rmw i;
+      «data» = t .«data» i;
+      addr = t .addr i;
+      ctrl = t .ctrl i;
+      casdep = t .casdep i
+    }
+
+-- A verdict over the arrays of a file is one on the file.
+module _ (k : ℕ) (Judged : Base → Verdict → Type 0) (f : List ℕ) (v : Verdict) (n : ℕ) (cause : n ≡ causeFor k f) where
+  pub on-refused : (n ≡ 0 → ⊥) → v .answer ≡ refuses n → v .len ≡ 0 → OnFile k Judged f v
+  on-refused d a l =
+      record {
+        refused = λ m e. (a ∙ ap refuses (cause ∙ e), l);
+        judged = λ e. absurd (d (cause ∙ e))
+      }
+
+  pub on-judged : n ≡ 0 → (sets : List (List ℕ)) (relations : List (List (List ℕ))) → SetsOf (decode f) sets
+      → RelationsOf (base nodes (decode f)) relations → Judged (baseOf sets relations) v → OnFile k Judged f v
+  on-judged z sets relations s t j =
+      record {
+        refused = λ m e. absurd (let q : suc m ≡ 0 = sym e ∙ sym cause ∙ z in omega arith);
+        judged = λ e. subst (λ (B : Base). Judged B v) (base-of (decode f) sets relations s t) j
+      }

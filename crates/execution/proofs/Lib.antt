@@ -1,0 +1,2 @@
+-- Theorems of `execution`.
+pub mod BaseOf

@@ -1,0 +1,3 @@
+-- The definitions that the contracts of `execution` cite.
+pub mod Arrays
+pub mod OnFile

@@ -1,0 +1,95 @@
+-- The ring of IMM's rule 3: where the rule is broken, steps of po or sw and at most one of eco come back to an event,
+-- and the closing step is eco only in a ring of two or more events. Assumes nothing.
+use mathlib.Core.Path.{_≡_, refl, sym, ap, subst, _∙_, fun-ext}
+use mathlib.Core.Bool.{Bool, true, false, not, _&&_, false≢true}
+use mathlib.Core.List.{List}
+use mathlib.Core.Logic.{_⊎_, inl, inr}
+use Prim.Native.Nat.{ℕ, zero, _<_}
+use native.Mathlib.Omega.{arith}
+use native.Mathlib.Decide.{ℕ-discrete, decLt}
+use borrow.Author.Tests.{eqb-true, ne-eqb, eq-eqb, lt-ltb}
+use lib.Dec.{eqb, ltb}
+use lib.ListN.{length, getD, List·getD-eq-default}
+use Rattle.relation.specs.Rel.{Set, Rel, union, difference, either, minus, identity, optional, plus, nodes}
+use Rattle.relation.specs.Ring.{after, closed, under, Ring}
+use Rattle.relation.proofs.SetLaws.{and-false}
+use Rattle.relation.proofs.Meaning.{Mem, and-left, and-right, and-both, or-either, or-left, or-right, chain-sound, chain-complete}
+use Rattle.relation.proofs.Walks.{Inside}
+use Rattle.relation.proofs.RingMeaning.{plus-closed}
+use Rattle.models.specs.Graph.{Base}
+use Rattle.models.specs.Term.{eval}
+use Rattle.models.specs.Imm.{eco}
+use Rattle.models.specs.Rules.{IMM}
+use Rattle.imm.specs.Judged.{apart, steps, closing}
+
+-- `apart` as it is computed.
+pub apart-is : (r d id : Rel) (all : Set) → Inside r → all ≡ under 64 → id ≡ identity all → d ≡ minus r id → d ≡ apart r
+unfolding apart minus difference identity under
+apart-is r d id all inside a e f =
+    f ∙ ap (minus r) (e ∙ ap identity a) ∙ fun-ext (λ x. fun-ext (λ y. same x y (r x y) refl))
+  where
+    same : (x y : ℕ) (b : Bool) → r x y ≡ b → r x y && not (ltb x 64 && eqb x y) ≡ r x y && not (eqb x y)
+    same x y true h = rw (lt-ltb x 64 (inside .source x y h))
+    same x y false h = rw h
+
+-- A closing step of e is one of f.
+closed-within : (r e f : Rel) → ((x y : ℕ) → e x y ≡ true → f x y ≡ true) → (x : ℕ) → closed r e x x ≡ true → closed r f x x ≡ true
+unfolding closed either union
+closed-within r e f sub x p =
+    elim (or-either (e x x) _ p) [
+      | inl h ↦ or-left (f x x) _ (sub x x h)
+      | inr h ↦ let (y, m, a, b) = chain-sound nodes (plus nodes r) e x x h in
+          or-right (f x x) _ (chain-complete nodes (plus nodes r) f x y x m a (sub y x b))
+    ]
+
+-- hb ; eco? comes back to x: by steps alone, or by steps and an eco step from another event.
+pub around : (B : Base) → Inside (steps B) → (x : ℕ) → eval nodes (IMM .coherent) B x x ≡ true → (y : ℕ) × (closed (steps B) (closing B) y y ≡ true)
+unfolding steps closing apart closed eval optional either union identity
+around B inside x p =
+    let (y, m, a, b) = chain-sound nodes (plus nodes (steps B)) (optional (B .E) (eval nodes eco B)) x x p in (
+      x,
+      elim (ℕ-discrete y x) [
+        | yes e ↦ by-steps (subst (λ (z : ℕ). plus nodes (steps B) x z ≡ true) e a)
+        | no d ↦ elim (or-either (eval nodes eco B y x) _ b) [
+          | inl h ↦ by-eco y m a (rw (ne-eqb y x d) (and-both (eval nodes eco B y x) true h refl))
+          | inr h ↦ absurd (d (eqb-true y x (and-right (B .E y) _ h)))
+        ]
+      ],
+    )
+  where
+    by-steps : plus nodes (steps B) x x ≡ true → closed (steps B) (closing B) x x ≡ true
+    by-steps q = closed-within (steps B) (steps B) (closing B) (λ u v h. or-left (steps B u v) _ h) x (plus-closed (steps B) inside x q)
+
+    by-eco : (y : ℕ) → Mem y nodes → plus nodes (steps B) x y ≡ true → apart (eval nodes eco B) y x ≡ true → closed (steps B) (closing B) x x ≡ true
+    by-eco y m a h = or-right (closing B x x) _ (chain-complete nodes (plus nodes (steps B)) (closing B) x y x m a (or-right (steps B y x) _ h))
+
+-- The closing step of a ring is po or sw, or it is eco and the ring has two or more events.
+not-apart : (r : Rel) (x y : ℕ) → x ≡ y → apart r x y ≡ false
+unfolding apart
+not-apart r x y e = rw (eq-eqb x y e) (and-false (r x y))
+
+pub closing-step : (B : Base) (l : List ℕ) (w : Ring (steps B) (closing B) l)
+    → let a = getD l (w .closing) zero in
+    let b = after l (w .closing) in
+    (steps B a b ≡ true) ⊎ ((eval nodes eco B a b ≡ true) × (1 < length l))
+unfolding closing apart either union after
+closing-step B l w = go (or-either (steps B a b) _ (w .closes))
+  where
+    a : ℕ
+    a = getD l (w .closing) zero
+
+    b : ℕ
+    b = after l (w .closing)
+
+    two : apart (eval nodes eco B) a b ≡ true → 1 < length l
+    two h =
+        elim (decLt 1 (length l)) [
+          | yes q ↦ q
+          | no q ↦ let alone : a ≡ b
+              = ap (λ (k : ℕ). getD l k zero) (omega (arith, q, w .inside)) ∙ sym (List·getD-eq-default l (getD l zero zero) (omega (arith, q))) in
+              absurd (false≢true (sym (not-apart (eval nodes eco B) a b alone) ∙ h))
+        ]
+
+    go : (steps B a b ≡ true) ⊎ (apart (eval nodes eco B) a b ≡ true) → (steps B a b ≡ true) ⊎ ((eval nodes eco B a b ≡ true) × (1 < length l))
+    go (inl h) = inl h
+    go (inr h) = inr (and-left _ _ h, two h)

@@ -1,0 +1,2 @@
+-- Laws that the proofs of `imm` cite.
+pub mod Around

@@ -1,0 +1,29 @@
+-- `hb::release` meets its contract: its definition, call by call. Assumes nothing.
+use Rattle.relation.specs.Bits.{edge}
+use Rattle.models.specs.Term.{eval}
+use Rattle.verdict.proofs.ChainLaws.{from-set}
+use borrow.Author.Needs.{needs}
+use Rattle.imm.proofs.hb.release.Statement.{statement}
+use Rattle.imm.proofs.hb.release.Tie as tie
+
+identity-requires : tie.Need-identity-requires
+identity-requires c κs = search needs
+
+from-requires : tie.Need-from-requires
+from-requires c κs = search needs
+
+or-requires : tie.Need-or-requires
+or-requires c κs = search needs
+
+then-requires : tie.Need-then-requires
+then-requires c κs = search needs
+
+returns : tie.Need-returns
+unfolding eval
+returns c =
+    λ B w f p s. let a = c .before .before .before .before .args in
+    cc (from-set (a .frel) (edge (a .po)))
+
+pub release-spec : {M : Type 1} → statement M
+release-spec =
+    tie.close (tie.spec identity-requires from-requires or-requires then-requires returns)

@@ -1,0 +1,2 @@
+-- The definitions that the contracts of `imm` cite.
+pub mod Judged

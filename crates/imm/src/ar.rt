@@ -1,0 +1,114 @@
+// The acyclicity relation of IMM, line by line of its definition.
+// Each contract holds for every base that the arguments are taken from.
+
+use relation::grid;
+use verdict::base;
+use verdict::base::Grid;
+use verdict::base::Relations;
+use verdict::base::Row;
+use verdict::base::Sets;
+ghost use mathlib.Core.Path.{_≡_};
+ghost use Rattle.relation.specs.Rel.{nodes};
+ghost use Rattle.relation.specs.Bits.{bit, edge};
+ghost use Rattle.models.specs.Recording.{R, W, F, Racq, Rex, Wrel, Fsc};
+ghost use Rattle.models.specs.Graph.{Base};
+ghost use Rattle.models.specs.Term.{eval, po-loc, rfₑ, rfᵢ, coₑ};
+ghost use Rattle.models.specs.Imm as imm;
+ghost use Rattle.verdict.specs.Base.{baseOf};
+
+// bob = po ; [Wrel] ∪ [Racq] ; po ∪ po ; [F] ∪ [F] ; po ∪ [Wrel] ; po-loc ; [W]
+fn bob(writes: Row, fences: Row, racq: Row, wrel: Row, po: Grid, poloc: Grid) -> Grid
+    ensures { λ r. ⌜ ((B : Base) → bit writes ≡ B .set W → bit fences ≡ B .set F → bit racq ≡ B .set Racq → bit wrel ≡ B .set Wrel
+        → edge po ≡ B .po → edge poloc ≡ eval nodes po-loc B → edge r ≡ eval nodes imm.bob B) ⌝ }
+{
+    let access = grid::or(grid::into(po, wrel), grid::from(racq, po));
+    let fence = grid::or(
+        grid::or(access, grid::into(po, fences)),
+        grid::from(fences, po),
+    );
+    grid::or(fence, grid::from(wrel, grid::into(poloc, writes)))
+}
+
+// deps = data ∪ ctrl ∪ addr ; po? ∪ casdep ∪ [Rex] ; po
+fn deps(events: Row, rex: Row, po: Grid, data: Grid, addr: Grid, ctrl: Grid, casdep: Grid) -> Grid
+    ensures { λ r. ⌜ ((B : Base) → bit events ≡ B .E → bit rex ≡ B .set Rex → edge po ≡ B .po
+        → edge «data» ≡ B .«data» → edge addr ≡ B .addr → edge ctrl ≡ B .ctrl → edge casdep ≡ B .casdep
+        → edge r ≡ eval nodes imm.deps B) ⌝ }
+{
+    let links = grid::or(
+        grid::or(data, ctrl),
+        grid::then(addr, grid::optional(po, events)),
+    );
+    grid::or(grid::or(links, casdep), grid::from(rex, po))
+}
+
+// ppo = [R] ; (deps ∪ rfi)⁺ ; [W]
+fn ppo(reads: Row, writes: Row, rfi: Grid, deps: Grid) -> Grid
+    ensures { λ r. ⌜ ((B : Base) → bit reads ≡ B .set R → bit writes ≡ B .set W → edge rfi ≡ eval nodes rfᵢ B → edge deps ≡ eval nodes imm.deps B
+        → edge r ≡ eval nodes imm.ppo B) ⌝ }
+{
+    grid::from(
+        reads,
+        grid::into(grid::closure(grid::or(deps, rfi)), writes),
+    )
+}
+
+// detour = (coe ; rfe) ∩ po
+fn detour(po: Grid, rfe: Grid, coe: Grid) -> Grid
+    ensures { λ r. ⌜ ((B : Base) → edge po ≡ B .po → edge rfe ≡ eval nodes rfₑ B → edge «coe» ≡ eval nodes coₑ B
+        → edge r ≡ eval nodes imm.detour B) ⌝ }
+{
+    grid::and(grid::then(coe, rfe), po)
+}
+
+// psc = [Fsc] ; hb ; eco ; hb ; [Fsc]
+fn psc(fsc: Row, hb: Grid, eco: Grid) -> Grid
+    ensures { λ r. ⌜ ((B : Base) → bit fsc ≡ B .set Fsc → edge hb ≡ eval nodes imm.hb B → edge eco ≡ eval nodes imm.eco B
+        → edge r ≡ eval nodes imm.psc B) ⌝ }
+{
+    let last = grid::then(eco, grid::into(hb, fsc));
+    grid::then(grid::from(fsc, hb), last)
+}
+
+// ar = rfe ∪ bob ∪ ppo ∪ detour ∪ psc ∪ [Wstrong] ; po ; [W]
+pub fn ar(
+    sets: Sets,
+    relations: Relations,
+    poloc: Grid,
+    rfe: Grid,
+    rfi: Grid,
+    coe: Grid,
+    hb: Grid,
+    eco: Grid,
+) -> Grid
+    ensures { λ r. ⌜ (let B : Base = baseOf sets relations in
+        edge poloc ≡ eval nodes po-loc B → edge rfe ≡ eval nodes rfₑ B → edge rfi ≡ eval nodes rfᵢ B → edge «coe» ≡ eval nodes coₑ B
+        → edge hb ≡ eval nodes imm.hb B → edge eco ≡ eval nodes imm.eco B
+        → edge r ≡ eval nodes imm.ar B) ⌝ }
+{
+    let po = relations[base::PO];
+    let writes = sets[base::WRITES];
+    let bob = bob(
+        writes,
+        sets[base::FENCES],
+        sets[base::RACQ],
+        sets[base::WREL],
+        po,
+        poloc,
+    );
+    let deps = deps(
+        sets[base::EVENTS],
+        sets[base::REX],
+        po,
+        relations[base::DATA],
+        relations[base::ADDR],
+        relations[base::CTRL],
+        relations[base::CASDEP],
+    );
+    let ppo = ppo(sets[base::READS], writes, rfi, deps);
+    let detour = detour(po, rfe, coe);
+    let psc = psc(sets[base::FSC], hb, eco);
+    let strong = grid::from(sets[base::WSTRONG], grid::into(po, writes));
+    let barriers = grid::or(grid::or(rfe, bob), ppo);
+    grid::or(grid::or(grid::or(barriers, detour), psc), strong)
+}

@@ -1,0 +1,37 @@
+// The IMM verdict over the base of an execution graph.
+
+pub mod ar;
+pub mod hb;
+
+use relation::grid;
+use relation::row;
+use verdict::Verdict;
+use verdict::base;
+use verdict::base::Relations;
+use verdict::base::Sets;
+use verdict::rules;
+use verdict::shown;
+ghost use Rattle.verdict.specs.Base.{baseOf};
+ghost use Rattle.imm.specs.Judged.{Judged};
+
+// The verdict, and what is shown of it.
+pub fn judge(sets: Sets, relations: Relations) -> Verdict
+    ensures { λ r. ⌜ Judged (baseOf sets relations) r ⌝ }
+{
+    let po = relations[base::PO];
+    let rf = relations[base::RF];
+    let co = relations[base::CO];
+    let poloc = grid::and(po, relations[base::LOC]);
+    let rfe = grid::minus(rf, po);
+    let rfi = grid::and(rf, po);
+    let coe = grid::minus(co, po);
+    let fr = rules::fr(rf, co);
+    let steps = hb::steps(sets, relations, poloc, rfe, rfi);
+    let hb = grid::closure(steps);
+    let eco = hb::eco(sets[base::EVENTS], rf, co, fr);
+    let incoherent = grid::diagonal(grid::then(hb, grid::optional(eco, sets[base::EVENTS])));
+    let closing = grid::or(steps, grid::minus(eco, grid::identity(row::all())));
+    let pairs = rules::broken_pairs(relations[base::RMW], grid::minus(fr, po), coe);
+    let ar = ar::ar(sets, relations, poloc, rfe, rfi, coe, hb, eco);
+    shown::decide(sets, relations, incoherent, steps, closing, pairs, ar)
+}

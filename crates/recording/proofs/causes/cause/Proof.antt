@@ -1,0 +1,38 @@
+-- `causes::cause` meets its contract, by what loading answered. Assumes nothing.
+use Rattle.recording.proofs.CauseLaws.{cause-refused, cause-other, cause-none}
+use borrow.Author.Needs.{needs}
+use Rattle.recording.proofs.causes.cause.Statement.{statement}
+use Rattle.recording.proofs.causes.cause.Tie as tie
+
+load-requires : tie.Need-load-requires
+load-requires c κs = search needs
+
+enum-known-answer : tie.Need-enum-known-answer
+enum-known-answer c = search needs
+
+enum-told : tie.Need-enum-told
+enum-told c = search needs
+
+number-requires : tie.Need-number-requires
+number-requires c κs = search needs
+
+returns : tie.Need-returns
+returns c = cause-refused _ _ _ _ _ (c .before .before .before .load .ensures) (c .before .enum-told .given .1) (c .number .ensures)
+
+returns-2 : tie.Need-returns-2
+returns-2 c = cause-other _ _ _ _ (c .before .before .before .before .load .ensures) (c .before .before .answer .given .1) (c .if1 .taken)
+
+returns-3 : tie.Need-returns-3
+returns-3 c = cause-none _ _ _ _ (c .before .before .before .before .load .ensures) (c .before .before .answer .given .1) (c .if1 .left)
+
+pub cause-spec : {M : Type 1} → statement M
+cause-spec =
+    tie.close
+    (tie.spec
+    load-requires
+    enum-known-answer
+    enum-told
+    number-requires
+    returns
+    returns-2
+    returns-3)

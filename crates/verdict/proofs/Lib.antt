@@ -1,0 +1,5 @@
+-- Laws that the proofs of `verdict` and of the models share.
+pub mod ChainLaws
+pub mod PairLaws
+pub mod ShownLaws
+pub mod ShownMeaning

@@ -1,0 +1,93 @@
+-- What a verdict shows means: an allowed one shows every event, and a broken rule 1, 2 or 4 is shown at what breaks it. Assumes nothing.
+use mathlib.Core.Path.{_≡_, refl, sym, subst, _∙_}
+use mathlib.Core.Bool.{Bool, true, false, false≢true}
+use mathlib.Core.List.{List, [], _∷_}
+use mathlib.Core.Logic.{_⊎_, inl, inr}
+use Prim.Native.Nat.{ℕ, zero, suc, _+_, _<_, _≤_}
+use native.Mathlib.Omega.{arith}
+use Rattle.relation.specs.Rel.{Set, Rel, some, least, diagonal, plus, nodes}
+use Rattle.relation.proofs.SetLaws.{least-is, least-lt}
+use Rattle.relation.proofs.Meaning.{Mem, Steps, one, more, mem-below, below-mem, some-sound, some-complete, plus-sound}
+use Rattle.relation.proofs.Walks.{Inside}
+use Rattle.relation.proofs.OrderLaws.{all-out}
+use Rattle.models.specs.Graph.{Base}
+use Rattle.models.specs.Term.{eval}
+use Rattle.models.specs.Rules.{Model, broken-pair, first, anywhere, unread, unordered, failures, verdict}
+use Rattle.verdict.specs.declared.Verdict.{Verdict}
+use Rattle.verdict.specs.Shown.{firstOf, secondOf, events, Shown}
+use Rattle.verdict.proofs.PairLaws.{fails}
+
+-- The test at place k.
+nth : List Bool → ℕ → Bool
+nth [] k = false
+nth (b ∷ bs) zero = b
+nth (b ∷ bs) (suc k) = nth bs k
+
+first-from : (n : ℕ) (bs : List Bool) → (first n bs ≡ 0) ⊎ (n ≤ first n bs)
+unfolding first
+first-from n [] = inl refl
+first-from n (true ∷ bs) = inr (omega arith)
+first-from n (false ∷ bs) = elim (first-from (suc n) bs) [ inl e ↦ inl e | inr h ↦ inr (omega arith) ]
+
+-- The test that the number names passes, and number 0 says that none does.
+first-passes : (n k : ℕ) (bs : List Bool) → 0 < n → first n bs ≡ n + k → nth bs k ≡ true
+unfolding first nth
+first-passes n k [] h e = absurd (omega arith)
+first-passes n zero (true ∷ bs) h e = refl
+first-passes n (suc k) (true ∷ bs) h e = absurd (omega arith)
+first-passes n zero (false ∷ bs) h e = absurd (elim (first-from (suc n) bs) [ inl q ↦ omega arith | inr q ↦ omega arith ])
+first-passes n (suc k) (false ∷ bs) h e = first-passes (suc n) k bs (omega arith) (omega arith)
+
+first-fails : (n k : ℕ) (bs : List Bool) → 0 < n → first n bs ≡ 0 → nth bs k ≡ false
+unfolding first nth
+first-fails n k [] h e = refl
+first-fails n k (true ∷ bs) h e = absurd (omega arith)
+first-fails n zero (false ∷ bs) h e = refl
+first-fails n (suc k) (false ∷ bs) h e = first-fails (suc n) k bs (omega arith) e
+
+-- The least of a set that has an event is in it.
+least-there : (s : Set) → some nodes s ≡ true → (least 64 s < 64) × (s (least 64 s) ≡ true)
+least-there s p =
+    let (x, m, h) = some-sound nodes s p in
+    let lt : least 64 s < 64 = omega (arith, least-lt 64 s x (below-mem 64 x m) h, below-mem 64 x m) in
+    (lt, least-is 64 s .member lt)
+
+pair-there : (r : Rel) → anywhere nodes r ≡ true → r (firstOf r) (secondOf r) ≡ true
+unfolding anywhere firstOf secondOf
+pair-there r p =
+    let (lt, h) = least-there (λ a. some nodes (r a)) p in
+    least-there (r (firstOf r)) h .1
+
+steps-target : {r : Rel} {x y : ℕ} → Inside r → Steps r x y → y < 64
+steps-target inside (one {y = y} h) = inside .target _ y h
+steps-target inside (more {y = y} {z = z} s h) = inside .target y z h
+
+module _ (M : Model) (B : Base) where
+  -- The smallest read without rf is one.
+  pub read-shown : verdict nodes B M ≡ 1 → unread nodes B (least 64 (unread nodes B)) ≡ true
+  unfolding verdict failures nth
+  read-shown e = least-there (unread nodes B) (first-passes 1 0 (failures nodes B M) (omega arith) e) .1
+
+  -- co does not order the two writes that are shown.
+  pub writes-shown : verdict nodes B M ≡ 2 → unordered nodes B (firstOf (unordered nodes B)) (secondOf (unordered nodes B)) ≡ true
+  unfolding verdict failures nth
+  writes-shown e = pair-there (unordered nodes B) (first-passes 1 1 (failures nodes B M) (omega arith) e)
+
+  -- The pair that is shown is an rmw pair that is also fre then coe.
+  pub pair-shown : verdict nodes B M ≡ 4 → eval nodes broken-pair B (firstOf (eval nodes broken-pair B)) (secondOf (eval nodes broken-pair B)) ≡ true
+  unfolding verdict failures nth
+  pair-shown e = pair-there (eval nodes broken-pair B) (first-passes 1 3 (failures nodes B M) (omega arith) e)
+
+  -- An allowed verdict shows every event.
+  pub all-shown : (steps closing : Rel) (v : Verdict) → Shown steps closing M B v → verdict nodes B M ≡ 0 → Inside (eval nodes (M .order) B)
+      → (j : ℕ) → j < 64 → B .E j ≡ true → Mem j (events v)
+  unfolding verdict failures nth eval diagonal
+  all-shown steps closing v w e inside j h p =
+      subst (Mem j) (sym (w .allowed e)) (all-out (eval nodes (M .order) B) inside acyclic (B .E) j h p)
+    where
+      acyclic : (y : ℕ) → plus nodes (eval nodes (M .order) B) y y ≡ false
+      acyclic y =
+          fails (plus nodes (eval nodes (M .order) B) y y)
+          (λ q. false≢true
+          (sym (first-fails 1 4 (failures nodes B M) (omega arith) e)
+          ∙ some-complete nodes (diagonal (plus nodes (eval nodes (M .order) B))) y (mem-below 64 y (steps-target inside (plus-sound nodes _ y y q))) q))

@@ -1,0 +1,18 @@
+-- `rules::fr` meets its contract: its definition, call by call. Assumes nothing.
+use Rattle.models.specs.Term.{eval}
+use borrow.Author.Needs.{needs}
+use Rattle.verdict.proofs.rules.fr.Statement.{statement}
+use Rattle.verdict.proofs.rules.fr.Tie as tie
+
+inverse-requires : tie.Need-inverse-requires
+inverse-requires c κs = search needs
+
+then-requires : tie.Need-then-requires
+then-requires c κs = search needs
+
+returns : tie.Need-returns
+unfolding eval
+returns c = λ B p q. cc
+
+pub fr-spec : {M : Type 1} → statement M
+fr-spec = tie.close (tie.spec inverse-requires then-requires returns)

@@ -1,0 +1,13 @@
+-- The answers of a verdict by 01's numbers. Assumes nothing.
+use Prim.Native.Nat.{ℕ, zero, suc}
+use Rattle.verdict.specs.declared.Answer.{Answer}
+use Rattle.verdict.specs.declared.Answer.the-variants.{Refused, Allowed, Broken}
+
+-- A refusal has the number of its cause (01, "Causes of refusal, in order").
+abbrev pub refuses : ℕ → Answer
+refuses k = Refused k
+
+-- A verdict has the number 0 where no rule is broken, and else that of the first broken rule ("first broken one named"), as `verdict` of `models`.
+abbrev pub answers : ℕ → Answer
+answers zero = Allowed
+answers (suc k) = Broken (suc k)

@@ -1,0 +1,21 @@
+// What the verdicts of all memory models share: their answer, the base of an execution graph as arrays,
+// the rules that every model has, and the last stage, which names the first broken rule and shows what is to be shown of it.
+// The rules are those of `models`; nothing here knows a model.
+
+pub mod base;
+pub mod rules;
+pub mod shown;
+
+// Refused by the cause of that number; broken by the rule of that number. specs/Answer.antt gives each case its number.
+pub enum Answer {
+    Refused(u8),
+    Allowed,
+    Broken(u8),
+}
+
+// An answer and the events that are shown: the first len of at.
+pub struct Verdict {
+    pub answer: Answer,
+    pub at: [u8; 64],
+    pub len: usize,
+}
