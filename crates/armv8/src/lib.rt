@@ -1,5 +1,6 @@
 // The ARMv8 verdict over the base of an execution graph.
 
+pub mod file;
 pub mod ob;
 
 use relation::grid;

@@ -30,7 +30,7 @@ base-of r sets relations s t =
       «data» = t .«data» i;
       addr = t .addr i;
       ctrl = t .ctrl i;
-      casdep = t .casdep i
+      casdep = t .casdep i;
     }
 
 -- A verdict over the arrays of a file is one on the file.
@@ -39,7 +39,7 @@ module _ (k : ℕ) (Judged : Base → Verdict → Type 0) (f : List ℕ) (v : Ve
   on-refused d a l =
       record {
         refused = λ m e. (a ∙ ap refuses (cause ∙ e), l);
-        judged = λ e. absurd (d (cause ∙ e))
+        judged = λ e. absurd (d (cause ∙ e));
       }
 
   pub on-judged : n ≡ 0 → (sets : List (List ℕ)) (relations : List (List (List ℕ))) → SetsOf (decode f) sets
@@ -47,5 +47,5 @@ module _ (k : ℕ) (Judged : Base → Verdict → Type 0) (f : List ℕ) (v : Ve
   on-judged z sets relations s t j =
       record {
         refused = λ m e. absurd (let q : suc m ≡ 0 = sym e ∙ sym cause ∙ z in omega arith);
-        judged = λ e. subst (λ (B : Base). Judged B v) (base-of (decode f) sets relations s t) j
+        judged = λ e. subst (λ (B : Base). Judged B v) (base-of (decode f) sets relations s t) j;
       }

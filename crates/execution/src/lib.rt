@@ -4,7 +4,6 @@ use recording::Members;
 use recording::graph;
 use relation::grid;
 use relation::row;
-
 ghost use mathlib.Core.Path.{_≡_};
 ghost use Rattle.relation.specs.Bits.{bit, edge};
 ghost use Rattle.relation.specs.Rel.{nodes};
@@ -19,7 +18,10 @@ pub fn events(file: &[u8]) -> [u8; 8]
     requires { ⌜ refusal (now file) ≡ 0 ⌝ }
     ensures { λ r. ⌜ bit r ≡ event (decode (now (file .entry))) ⌝ }
 {
-    row::or(graph::members(file, Members::Initial), graph::members(file, Members::Recorded))
+    row::or(
+        graph::members(file, Members::Initial),
+        graph::members(file, Members::Recorded),
+    )
 }
 
 // Fences of mode 1, 3 or 4.
@@ -27,7 +29,10 @@ pub fn acquire_fences(file: &[u8]) -> [u8; 8]
     requires { ⌜ refusal (now file) ≡ 0 ⌝ }
     ensures { λ r. ⌜ bit r ≡ acquireFence (decode (now (file .entry))) ⌝ }
 {
-    let some = row::or(graph::members(file, Members::Mode(3, 1)), graph::members(file, Members::Mode(3, 3)));
+    let some = row::or(
+        graph::members(file, Members::Mode(3, 1)),
+        graph::members(file, Members::Mode(3, 3)),
+    );
     row::or(some, graph::members(file, Members::Mode(3, 4)))
 }
 
@@ -36,7 +41,10 @@ pub fn release_fences(file: &[u8]) -> [u8; 8]
     requires { ⌜ refusal (now file) ≡ 0 ⌝ }
     ensures { λ r. ⌜ bit r ≡ releaseFence (decode (now (file .entry))) ⌝ }
 {
-    let some = row::or(graph::members(file, Members::Mode(3, 2)), graph::members(file, Members::Mode(3, 3)));
+    let some = row::or(
+        graph::members(file, Members::Mode(3, 2)),
+        graph::members(file, Members::Mode(3, 3)),
+    );
     row::or(some, graph::members(file, Members::Mode(3, 4)))
 }
 

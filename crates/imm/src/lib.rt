@@ -1,6 +1,7 @@
 // The IMM verdict over the base of an execution graph.
 
 pub mod ar;
+pub mod file;
 pub mod hb;
 
 use relation::grid;

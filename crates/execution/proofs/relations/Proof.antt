@@ -45,7 +45,7 @@ returns c =
       «data» = c .before .before .before .links3 .ensures;
       addr = c .before .before .links4 .ensures;
       ctrl = c .before .control .ensures;
-      casdep = c .links5 .ensures
+      casdep = c .links5 .ensures;
     }
 
 pub relations-spec : {M : Type 1} → statement M

@@ -56,19 +56,19 @@ returns c =
       events = c .before .before .before .before .before .before .before .before .before .before .before .before .before .events .ensures;
       initial = c .before .before .before .before .before .before .before .before .before .before .before .before .members .ensures;
       named = elim [
-      R ↦ c .before .before .before .before .before .before .before .before .before .before .before .members2 .ensures
-      | W ↦ c .before .before .before .before .before .before .before .before .before .before .members3 .ensures
-      | F ↦ c .before .before .before .before .before .before .before .before .before .members4 .ensures
-      | Racq ↦ c .before .before .before .before .before .before .before .before .members5 .ensures
-      | Rex ↦ c .before .before .before .before .before .before .before .members6 .ensures
-      | Wrel ↦ c .before .before .before .before .before .before .members7 .ensures
-      | Wstrong ↦ c .before .before .before .before .before .members8 .ensures
-      | Facq ↦ c .before .before .before .before .acquire-fences .ensures
-      | Frel ↦ c .before .before .before .release-fences .ensures
-      | Fsc ↦ c .before .before .members9 .ensures
-      | Fld ↦ c .before .members10 .ensures
-      | Fsy ↦ c .members11 .ensures
-      ]
+        | R ↦ c .before .before .before .before .before .before .before .before .before .before .before .members2 .ensures
+        | W ↦ c .before .before .before .before .before .before .before .before .before .before .members3 .ensures
+        | F ↦ c .before .before .before .before .before .before .before .before .before .members4 .ensures
+        | Racq ↦ c .before .before .before .before .before .before .before .before .members5 .ensures
+        | Rex ↦ c .before .before .before .before .before .before .before .members6 .ensures
+        | Wrel ↦ c .before .before .before .before .before .before .members7 .ensures
+        | Wstrong ↦ c .before .before .before .before .before .members8 .ensures
+        | Facq ↦ c .before .before .before .before .acquire-fences .ensures
+        | Frel ↦ c .before .before .before .release-fences .ensures
+        | Fsc ↦ c .before .before .members9 .ensures
+        | Fld ↦ c .before .members10 .ensures
+        | Fsy ↦ c .members11 .ensures
+      ];
     }
 
 pub sets-spec : {M : Type 1} → statement M

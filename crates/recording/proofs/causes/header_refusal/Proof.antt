@@ -28,9 +28,11 @@ over-limit-requires c κs = search needs
 returns-3 : tie.Need-returns-3
 returns-3 c =
     let f = c .before .before .before .before .before .before .before .args .file .now in
-    let made = c .before .before .before .before in
-    (header-3 f (made .before .if1 .left) (known-of f _ _ (made .header .ensures .0) (c .before .before .before .known .ensures) ∙ not-false _ (c .before .before .if2 .left))
-    (over-of f _ _ (made .header .ensures .0) (c .before .over-limit .ensures) ∙ c .if3 .taken), λ e. absurd (omega arith))
+    let made = c .before .before .before .before in (
+      header-3 f (made .before .if1 .left) (known-of f _ _ (made .header .ensures .0) (c .before .before .before .known .ensures) ∙ not-false _ (c .before .before .if2 .left))
+          (over-of f _ _ (made .header .ensures .0) (c .before .over-limit .ensures) ∙ c .if3 .taken),
+      λ e. absurd (omega arith),
+    )
 
 mul-if4 : tie.Need-mul-if4
 mul-if4 c = search needs
