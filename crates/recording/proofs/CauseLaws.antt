@@ -441,3 +441,12 @@ cause-goes-on k f p = by-refusal (refusal f) refl
     by-refusal : (n : ℕ) → refusal f ≡ n → (refusal f ≡ 0) × (kind f ≡ k)
     by-refusal zero e = (e, by-kind e (eqb (kind f) k) refl)
     by-refusal (suc n) e = absurd (let z : suc n ≡ 0 = sym (rw (e, causeFor)) ∙ p in omega arith)
+
+-- The number of what loading answers is that of the first cause that applies.
+pub load-number : (f : List ℕ) → numberOf (loadOf f) ≡ refusal f
+unfolding loadOf numberOf answer
+load-number f = go (refusal f)
+  where
+    go : (n : ℕ) → numberOf (answer n (headerOf f)) ≡ n
+    go zero = refl
+    go (suc n) = refl
