@@ -1,7 +1,7 @@
-// The ARMv8 verdict over the base of an execution graph.
+// The ARMv8 verdict over the base of an execution graph: the rules of `models` and what is shown of them.
 
 pub mod file;
-pub mod ob;
+mod ob;
 
 use relation::grid;
 use verdict::Verdict;
@@ -24,8 +24,10 @@ pub fn judge(sets: Sets, relations: Relations) -> Verdict
     let fr = rules::fr(rf, co);
     let fre = grid::minus(fr, po);
     let coe = grid::minus(co, po);
+    // Rule 3.
     let sc_per_loc = grid::or(grid::or(grid::or(poloc, rf), fr), co);
     let incoherent = grid::diagonal(grid::closure(sc_per_loc));
+    // Rules 4 and 5.
     let pairs = rules::broken_pairs(relations[base::RMW], fre, coe);
     let ob = ob::ob(sets, relations, fre, coe);
     shown::decide(

@@ -10,7 +10,7 @@ use verdict::base::Sets;
 ghost use mathlib.Core.Path.{_≡_};
 ghost use Rattle.relation.specs.Rel.{nodes};
 ghost use Rattle.relation.specs.Bits.{bit, edge};
-ghost use Rattle.models.specs.Recording.{R, W, F, Racq, Rex, Wrel, Fsc};
+ghost use Rattle.models.specs.Recording.{R, W, F, Racq, Wrel, Fsc};
 ghost use Rattle.models.specs.Graph.{Base};
 ghost use Rattle.models.specs.Term.{eval, po-loc, rfₑ, rfᵢ, coₑ};
 ghost use Rattle.models.specs.Imm as imm;
@@ -30,16 +30,17 @@ fn bob(writes: Row, fences: Row, racq: Row, wrel: Row, po: Grid, poloc: Grid) ->
 }
 
 // deps = data ∪ ctrl ∪ addr ; po? ∪ casdep ∪ [Rex] ; po
-fn deps(events: Row, rex: Row, po: Grid, data: Grid, addr: Grid, ctrl: Grid, casdep: Grid) -> Grid
-    ensures { λ r. ⌜ ((B : Base) → bit events ≡ B .E → bit rex ≡ B .set Rex → edge po ≡ B .po
-        → edge «data» ≡ B .«data» → edge addr ≡ B .addr → edge ctrl ≡ B .ctrl → edge casdep ≡ B .casdep
-        → edge r ≡ eval nodes imm.deps B) ⌝ }
+fn deps(sets: Sets, relations: Relations) -> Grid
+    ensures { λ r. ⌜ edge r ≡ eval nodes imm.deps (baseOf sets relations) ⌝ }
 {
-    let links = grid::or(
-        grid::or(data, ctrl),
-        grid::then(addr, grid::optional(po, events)),
+    let po = relations[base::PO];
+    let link = grid::or(relations[base::DATA], relations[base::CTRL]);
+    let address = grid::then(
+        relations[base::ADDR],
+        grid::optional(po, sets[base::EVENTS]),
     );
-    grid::or(grid::or(links, casdep), grid::from(rex, po))
+    let links = grid::or(grid::or(link, address), relations[base::CASDEP]);
+    grid::or(links, grid::from(sets[base::REX], po))
 }
 
 // ppo = [R] ; (deps ∪ rfi)⁺ ; [W]
@@ -96,15 +97,7 @@ pub fn ar(
         po,
         poloc,
     );
-    let deps = deps(
-        sets[base::EVENTS],
-        sets[base::REX],
-        po,
-        relations[base::DATA],
-        relations[base::ADDR],
-        relations[base::CTRL],
-        relations[base::CASDEP],
-    );
+    let deps = deps(sets, relations);
     let ppo = ppo(sets[base::READS], writes, rfi, deps);
     let detour = detour(po, rfe, coe);
     let psc = psc(sets[base::FSC], hb, eco);

@@ -1,8 +1,8 @@
-// The IMM verdict over the base of an execution graph.
+// The IMM verdict over the base of an execution graph: the rules of `models` and what is shown of them.
 
-pub mod ar;
+mod ar;
 pub mod file;
-pub mod hb;
+mod hb;
 
 use relation::grid;
 use relation::row;
@@ -27,11 +27,13 @@ pub fn judge(sets: Sets, relations: Relations) -> Verdict
     let rfi = grid::and(rf, po);
     let coe = grid::minus(co, po);
     let fr = rules::fr(rf, co);
+    // Rule 3 forbids hb ; eco? from an event to itself. Its ring is of steps of hb, and may be closed by eco between two events.
     let steps = hb::steps(sets, relations, poloc, rfe, rfi);
     let hb = grid::closure(steps);
     let eco = hb::eco(sets[base::EVENTS], rf, co, fr);
     let incoherent = grid::diagonal(grid::then(hb, grid::optional(eco, sets[base::EVENTS])));
     let closing = grid::or(steps, grid::minus(eco, grid::identity(row::all())));
+    // Rules 4 and 5.
     let pairs = rules::broken_pairs(relations[base::RMW], grid::minus(fr, po), coe);
     let ar = ar::ar(sets, relations, poloc, rfe, rfi, coe, hb, eco);
     shown::decide(sets, relations, incoherent, steps, closing, pairs, ar)

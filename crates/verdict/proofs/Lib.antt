@@ -1,5 +1,6 @@
 -- Laws that the proofs of `verdict` and of the models share.
 pub mod ChainLaws
+pub mod TermLaws
 pub mod PairLaws
 pub mod ShownLaws
 pub mod ShownMeaning

@@ -57,25 +57,25 @@ unread-is reads all seen out rf a s o B p q =
     (ap (λ (f : Set). f r) s ∙ ap (λ (f : Set). some nodes (λ i. f i && rf i r)) a ∙ some-under (λ w. rf w r)
     ∙ ap (λ (f : Rel). some nodes (λ w. f w r)) q))
 
--- The pairs that the search goes through: b is open for a.
-unfoldable pub openFor : Set → Rel → Rel → Rel
-openFor writes loc settled a b = writes a && difference (intersection writes (loc a)) (settled a) b
+-- What the search goes through: b is a write of a's location that is not settled with a.
+unfoldable pub unsettled-of : Set → Rel → Rel → Rel
+unsettled-of writes loc settled a b = writes a && difference (intersection writes (loc a)) (settled a) b
 
-pub open-no : (writes : Set) (loc settled : Rel) (a : ℕ) → writes a ≡ false → (x : ℕ) → openFor writes loc settled a x ≡ false
-unfolding openFor
-open-no writes loc settled a p x = rw p
+pub unsettled-no : (writes : Set) (loc settled : Rel) (a : ℕ) → writes a ≡ false → (x : ℕ) → unsettled-of writes loc settled a x ≡ false
+unfolding unsettled-of
+unsettled-no writes loc settled a p x = rw p
 
-pub open-yes : (writes peers left : Set) (loc settled : Rel) (a : ℕ) → writes a ≡ true → peers ≡ intersection writes (loc a) → left ≡ difference peers (settled a)
-    → (x : ℕ) → openFor writes loc settled a x ≡ left x
-unfolding openFor
-open-yes writes peers left loc settled a p q r x =
+pub unsettled-yes : (writes peers left : Set) (loc settled : Rel) (a : ℕ) → writes a ≡ true → peers ≡ intersection writes (loc a) → left ≡ difference peers (settled a)
+    → (x : ℕ) → unsettled-of writes loc settled a x ≡ left x
+unfolding unsettled-of
+unsettled-yes writes peers left loc settled a p q r x =
     rw p (sym (ap (λ (f : Set). f x) (r ∙ ap (λ (f : Set). difference f (settled a)) q)))
 
 pub unordered-is : (writes : Set) (loc co back joined settled : Rel) → back ≡ inverse co → joined ≡ either co back → settled ≡ optional writes joined
-    → (B : Base) → writes ≡ B .set W → loc ≡ B .loc → co ≡ B .co → openFor writes loc settled ≡ unordered nodes B
-unfolding openFor unordered difference intersection optional either union inverse identity
+    → (B : Base) → writes ≡ B .set W → loc ≡ B .loc → co ≡ B .co → unsettled-of writes loc settled ≡ unordered nodes B
+unfolding unsettled-of unordered difference intersection optional either union inverse identity
 unordered-is writes loc co back joined settled e f g B p q r =
-    ap (openFor writes loc) (g ∙ ap (optional writes) (f ∙ ap (either co) e))
+    ap (unsettled-of writes loc) (g ∙ ap (optional writes) (f ∙ ap (either co) e))
     ∙ fun-ext (λ a. fun-ext (λ b. same-test (writes a) (writes b) (loc a b) (eqb a b) (co a b) (co b a)))
     ∙ (λ i a b. (p i a && p i b && q i a b) && not (eqb a b || r i a b || r i b a))
   where

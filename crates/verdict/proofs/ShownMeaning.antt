@@ -1,8 +1,9 @@
--- What a verdict shows means: an allowed one shows every event, and a broken rule 1, 2 or 4 is shown at what breaks it. Assumes nothing.
-use mathlib.Core.Path.{_≡_, refl, sym, subst, _∙_}
+-- What a verdict says and shows means: the rules of the execution graph; every event where it is allowed;
+-- and what breaks rule 1, 2 or 4 where it is that. Assumes nothing.
+use mathlib.Core.Path.{_≡_, refl, sym, ap, subst, _∙_}
 use mathlib.Core.Bool.{Bool, true, false, false≢true}
 use mathlib.Core.List.{List, [], _∷_}
-use mathlib.Core.Logic.{_⊎_, inl, inr}
+use mathlib.Core.Logic.{_⊎_, inl, inr, _↔_}
 use Prim.Native.Nat.{ℕ, zero, suc, _+_, _<_, _≤_}
 use native.Mathlib.Omega.{arith}
 use Rattle.relation.specs.Rel.{Set, Rel, some, least, diagonal, plus, nodes}
@@ -10,10 +11,14 @@ use Rattle.relation.proofs.SetLaws.{least-is, least-lt}
 use Rattle.relation.proofs.Meaning.{Mem, Steps, one, more, mem-below, below-mem, some-sound, some-complete, plus-sound}
 use Rattle.relation.proofs.Walks.{Inside}
 use Rattle.relation.proofs.OrderLaws.{all-out}
-use Rattle.models.specs.Graph.{Base}
+use Rattle.models.specs.Recording.{Recording}
+use Rattle.models.specs.Graph.{Base, graph, base, Within}
 use Rattle.models.specs.Term.{eval}
+use Rattle.models.specs.Rules as models
 use Rattle.models.specs.Rules.{Model, broken-pair, first, anywhere, unread, unordered, failures, verdict}
+use Rattle.models.proofs.Agree.{recording-verdict, recording-allowed}
 use Rattle.verdict.specs.declared.Verdict.{Verdict}
+use Rattle.verdict.specs.Answer.{answers}
 use Rattle.verdict.specs.Shown.{firstOf, secondOf, events, Shown}
 use Rattle.verdict.proofs.PairLaws.{fails}
 
@@ -91,3 +96,17 @@ module _ (M : Model) (B : Base) where
           (λ q. false≢true
           (sym (first-fails 1 4 (failures nodes B M) (omega arith) e)
           ∙ some-complete nodes (diagonal (plus nodes (eval nodes (M .order) B))) y (mem-below 64 y (steps-target inside (plus-sound nodes _ y y q))) q))
+
+-- Over the base of a recording the answer is the model's verdict of its execution graph: allowed exactly where no rule fails.
+module _ (steps closing : Rel) (M : Model) (v : Verdict) (r : Recording ℕ) (within : Within nodes r) (w : Shown steps closing M (base nodes r) v) where
+  pub answer-means : (n : ℕ) × (v .answer ≡ answers n) × models.Verdict M (graph r) n
+  answer-means = (verdict nodes (base nodes r) M, w .answer, recording-verdict nodes r within M)
+
+  pub allowed-means : (v .answer ≡ answers 0) ↔ models.Allowed M (graph r)
+  allowed-means =
+      let (f, g) = recording-allowed nodes r within M in
+      (λ e. f (zero-of (verdict nodes (base nodes r) M) (sym (w .answer) ∙ e)), λ a. w .answer ∙ ap answers (g a))
+    where
+      zero-of : (n : ℕ) → answers n ≡ answers 0 → n ≡ 0
+      zero-of zero e = refl
+      zero-of (suc n) e = cc

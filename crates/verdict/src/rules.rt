@@ -33,6 +33,7 @@ pub fn unordered(writes: Row, loc: Grid, co: Grid) -> Pair
     ensures { λ r. ⌜ ((B : Base) → bit writes ≡ B .set W → edge loc ≡ B .loc → edge co ≡ B .co
         → FirstPair (models.unordered nodes B) (r .first) (r .second)) ⌝ }
 {
+    // Two writes need no order where they are one, or where co orders them.
     let settled = grid::optional(grid::or(co, grid::inverse(co)), writes);
     let mut a: usize = 0;
     let mut b: usize = 0;

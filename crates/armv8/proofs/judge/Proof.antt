@@ -1,6 +1,6 @@
 -- `judge` meets its contract: its relations are those of the model. Assumes nothing.
-use mathlib.Core.Path.{_≡_, refl, ap, ap₂, subst, _∙_}
-use Rattle.relation.specs.Rel.{Rel, either, minus, plus, diagonal, nodes}
+use mathlib.Core.Path.{_≡_, refl, ap, subst, _∙_}
+use Rattle.relation.specs.Rel.{diagonal, nodes}
 use Rattle.relation.specs.Bits.{edge}
 use Rattle.relation.proofs.Walks.{Inside, edge-inside}
 use Rattle.relation.proofs.RingMeaning.{plus-closed}
@@ -10,6 +10,7 @@ use Rattle.models.specs.Armv8.{scPerLoc}
 use Rattle.models.specs.Rules.{ARMv8}
 use Rattle.verdict.specs.Base.{baseOf}
 use Rattle.verdict.proofs.ShownLaws.{concluded}
+use Rattle.verdict.proofs.TermLaws.{holds, given, is-union, is-minus, is-plus}
 use borrow.Author.Needs.{needs}
 use Rattle.armv8.proofs.judge.Statement.{statement}
 use Rattle.armv8.proofs.judge.Tie as tie
@@ -31,16 +32,16 @@ fr-is c = c .fr .ensures (base (from-fr c)) refl refl
 
 fre-is : (c : tie.After-minus) → edge (c .minus .result) ≡ eval nodes frₑ (base (from-fr (c .before)))
 unfolding eval baseOf
-fre-is c = c .minus .ensures ∙ ap (λ (r : Rel). minus r (base (from-fr (c .before)) .po)) (fr-is (c .before))
+fre-is c = holds (base (from-fr (c .before))) frₑ (is-minus (given (fr-is (c .before))) (given refl) (c .minus .ensures))
 
 sc-per-loc-is : (c : tie.After-or3) → edge (c .or3 .result) ≡ eval nodes scPerLoc (base (from-or3 c))
 unfolding eval baseOf
 sc-per-loc-is c =
     let after-fr = c .before .before .before .before .before in
-    c .or3 .ensures
-    ∙ ap (λ (r : Rel). either r (base (from-or3 c) .co))
-    (c .before .or2 .ensures
-    ∙ ap₂ either (c .before .before .or .ensures ∙ ap (λ (r : Rel). either r (base (from-or3 c) .rf)) (after-fr .before .and .ensures)) (fr-is after-fr))
+    holds (base (from-or3 c)) scPerLoc
+    (is-union
+    (is-union (is-union (given (after-fr .before .and .ensures)) (given refl) (c .before .before .or .ensures)) (given (fr-is after-fr)) (c .before .or2 .ensures))
+    (given refl) (c .or3 .ensures))
 
 inside : (c : tie.After-or3) → Inside (eval nodes scPerLoc (base (from-or3 c)))
 inside c = subst Inside (sc-per-loc-is c) (edge-inside _ (search needs))
@@ -104,9 +105,11 @@ returns c =
     let e = fre-is (after-minus2 .before) in
     let k = after-minus2 .minus2 .ensures in
     let s = sc-per-loc-is after-or3 in
+    let B = base (from-or3 after-or3) in
+    let closed = holds B (ARMv8 .coherent) (is-plus (given s) (c .before .before .before .before .before .closure .ensures)) in
     concluded ARMv8 _ _ _ _ _ _ _ _ _ s s (λ x h. (x, plus-closed _ (inside after-or3) x h))
-    (c .before .before .before .before .diagonal .ensures ∙ ap diagonal (c .before .before .before .before .before .closure .ensures ∙ ap (plus nodes) s))
-    (c .before .before .broken-pairs .ensures (base (from-or3 after-or3)) refl e k) (c .before .ob .ensures e k) (c .decide .ensures ARMv8)
+    (c .before .before .before .before .diagonal .ensures ∙ ap diagonal closed) (c .before .before .broken-pairs .ensures B refl e k) (c .before .ob .ensures e k)
+    (c .decide .ensures ARMv8)
 
 pub judge-spec : {M : Type 1} → statement M
 judge-spec =

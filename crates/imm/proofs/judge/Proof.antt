@@ -1,15 +1,16 @@
 -- `judge` meets its contract: its relations are those of the model, and a broken rule 3 has a ring. Assumes nothing.
 use mathlib.Core.Path.{_≡_, refl, ap, ap₂, subst, _∙_}
-use Rattle.relation.specs.Rel.{Rel, either, minus, identity, chain, plus, optional, diagonal, nodes}
+use Rattle.relation.specs.Rel.{either, diagonal, nodes}
 use Rattle.relation.specs.Bits.{bit, edge}
 use Rattle.relation.proofs.Walks.{Inside, edge-inside}
 use Rattle.models.specs.Graph.{Base}
-use Rattle.models.specs.Term.{eval, po, fr}
-use Rattle.models.specs.Imm.{hb, eco, ar}
+use Rattle.models.specs.Term.{eval, fr, frₑ}
+use Rattle.models.specs.Imm.{hb, eco}
 use Rattle.models.specs.Rules.{IMM, broken-pair}
 use Rattle.verdict.specs.Base.{baseOf}
-use Rattle.imm.specs.Judged.{apart, steps, closing}
 use Rattle.verdict.proofs.ShownLaws.{concluded}
+use Rattle.verdict.proofs.TermLaws.{holds, given, is-minus, is-then, is-opt, is-plus}
+use Rattle.imm.specs.Judged.{apart, steps, closing}
 use Rattle.imm.proofs.Around.{apart-is, around}
 use borrow.Author.Needs.{needs}
 use Rattle.imm.proofs.judge.Statement.{statement}
@@ -40,19 +41,21 @@ steps-is c =
     c .steps .ensures (after-rfi .before .before .and .ensures) (after-rfi .before .minus .ensures) (after-rfi .and2 .ensures)
 
 hb-is : (c : tie.After-closure) → edge (c .closure .result) ≡ eval nodes hb (base (from-steps (c .before)))
-unfolding eval steps
-hb-is c = c .closure .ensures ∙ ap (plus nodes) (steps-is (c .before))
+unfolding steps
+hb-is c = holds (base (from-steps (c .before))) hb (is-plus (given (steps-is (c .before))) (c .closure .ensures))
 
 eco-is : (c : tie.After-eco) → edge (c .eco .result) ≡ eval nodes eco (base (from-eco c))
 unfolding baseOf
 eco-is c = c .eco .ensures (base (from-eco c)) refl refl refl (fr-is (c .before .before .before .before))
 
 incoherent-is : (c : tie.After-diagonal) → bit (c .diagonal .result) ≡ diagonal (eval nodes (IMM .coherent) (base (from-eco (c .before .before .before .before))))
-unfolding eval baseOf
+unfolding baseOf
 incoherent-is c =
     let after-eco = c .before .before .before .before in
     c .diagonal .ensures
-    ∙ ap diagonal (c .before .then .ensures ∙ ap₂ (chain nodes) (hb-is (after-eco .before .before)) (c .before .before .optional .ensures ∙ ap (optional _) (eco-is after-eco)))
+    ∙ ap diagonal
+    (holds (base (from-eco after-eco)) (IMM .coherent)
+    (is-then (given (hb-is (after-eco .before .before))) (is-opt refl (given (eco-is after-eco)) (c .before .before .optional .ensures)) (c .before .then .ensures)))
 
 inside-eco : (c : tie.After-eco) → Inside (edge (c .eco .result))
 inside-eco c = edge-inside _ (search needs)
@@ -68,7 +71,9 @@ pairs-is : (c : tie.After-broken-pairs) → edge (c .broken-pairs .result) ≡ e
 unfolding eval baseOf
 pairs-is c =
     let after-fr = c .before .before .before .before .before .before .before .before .before .before .before .before .before .before .before in
-    c .broken-pairs .ensures (base (from-fr after-fr)) refl (c .before .minus4 .ensures ∙ ap (λ (r : Rel). minus r (base (from-fr after-fr) .po)) (fr-is after-fr)) (after-fr .before .minus2 .ensures)
+    let B = base (from-fr after-fr) in
+    let fre = holds B frₑ (is-minus (given (fr-is after-fr)) (given refl) (c .before .minus4 .ensures)) in
+    c .broken-pairs .ensures B refl fre (after-fr .before .minus2 .ensures)
 
 ar-is : (c : tie.After-ar) → edge (c .ar .result) ≡ eval nodes (IMM .order) (base (from-eco (c .before .before .before .before .before .before .before .before .before .before .before .before)))
 unfolding eval baseOf

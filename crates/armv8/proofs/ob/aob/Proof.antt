@@ -1,6 +1,7 @@
 -- `ob::aob` meets its contract: its definition, call by call. Assumes nothing.
 use Rattle.models.specs.Term.{eval}
-use Rattle.verdict.proofs.ChainLaws.{between}
+use Rattle.models.specs.Armv8.{aob}
+use Rattle.verdict.proofs.TermLaws.{holds, given, is-union, is-into, is-from-codom}
 use borrow.Author.Needs.{needs}
 use Rattle.armv8.proofs.ob.aob.Statement.{statement}
 use Rattle.armv8.proofs.ob.aob.Tie as tie
@@ -20,7 +21,10 @@ or-requires c κs = search needs
 returns : tie.Need-returns
 unfolding eval
 returns c =
-    λ B e q m i. cc (between _ _ _ _ _ (c .before .before .into .ensures) (c .before .from .ensures))
+    λ B e q m i. let after-into = c .before .before in
+    holds B aob
+    (is-union (given m)
+    (is-from-codom _ e (given m) (after-into .before .image .ensures) (is-into _ q (given i) (after-into .into .ensures)) (c .before .from .ensures)) (c .or .ensures))
 
 pub aob-spec : {M : Type 1} → statement M
 aob-spec = tie.close (tie.spec image-requires into-requires from-requires or-requires returns)

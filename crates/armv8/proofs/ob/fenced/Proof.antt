@@ -1,8 +1,11 @@
 -- `ob::fenced` meets its contract: what lies behind a fence of either kind is reached together. Assumes nothing.
-use Rattle.relation.specs.Rel.{chain, nodes}
-use Rattle.relation.specs.Bits.{bit, edge}
-use Rattle.models.specs.Term.{eval}
-use Rattle.verdict.proofs.ChainLaws.{from-set, from-chain, into-chain, either-chain}
+use mathlib.Core.Path.{refl, ap, _∙_}
+use Rattle.relation.specs.Rel.{Rel, chain, nodes}
+use Rattle.relation.specs.Bits.{edge}
+use Rattle.models.specs.Recording.{R, Fld, Fsy}
+use Rattle.models.specs.Term.{po, ⟨_⟩, _⨾_, _∪_, eval}
+use Rattle.verdict.proofs.ChainLaws.{from-chain, either-chain}
+use Rattle.verdict.proofs.TermLaws.{holds, given, is-union, is-then, is-from, is-into, is-assoc}
 use borrow.Author.Needs.{needs}
 use Rattle.armv8.proofs.ob.fenced.Statement.{statement}
 use Rattle.armv8.proofs.ob.fenced.Tie as tie
@@ -27,18 +30,12 @@ unfolding eval
 returns c =
     λ B r d y p. let after-into2 = c .before .before in
     let after-from = after-into2 .before in
-    let a = after-from .before .before .args in
-    let po = edge (a .po) in
-    let load = edge (after-from .before .into .result) in
-    cc (
-      either-chain (edge (after-into2 .into2 .result)) (edge (after-from .from .result)) po,
-      into-chain (bit (a .fsy)) po po,
-      from-set (a .fsy) po,
-      from-chain (bit (a .reads)) load po,
-      from-set (a .reads) (chain nodes load po),
-      into-chain (bit (a .fld)) po po,
-      from-set (a .fld) po,
-    )
+    let later = edge (after-from .before .before .args .po) in
+    holds B (po ⨾ ⟨ Fsy ⟩ ⨾ po ∪ ⟨ R ⟩ ⨾ po ⨾ ⟨ Fld ⟩ ⨾ po)
+    (is-union (is-assoc (is-then (is-into _ y (given p) (after-into2 .into2 .ensures)) (given p) refl))
+    (is-from _ r (is-assoc (is-then (is-into _ d (given p) (after-from .before .into .ensures)) (given p) refl))
+    (ap (λ (s : Rel). chain nodes s later) (after-from .from .ensures) ∙ from-chain _ _ _))
+    (c .then .ensures ∙ ap (λ (s : Rel). chain nodes s later) (c .before .or .ensures) ∙ either-chain _ _ _))
 
 pub fenced-spec : {M : Type 1} → statement M
 fenced-spec =

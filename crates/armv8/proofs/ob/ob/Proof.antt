@@ -1,8 +1,9 @@
 -- `ob::ob` meets its contract: its parts, one after the other. Assumes nothing.
-use mathlib.Core.Path.{refl, ap₂, _∙_}
-use Rattle.relation.specs.Rel.{either}
+use mathlib.Core.Path.{refl}
 use Rattle.models.specs.Term.{eval}
+use Rattle.models.specs.Armv8.{ob}
 use Rattle.verdict.specs.Base.{baseOf}
+use Rattle.verdict.proofs.TermLaws.{holds, given, is-union}
 use borrow.Author.Needs.{needs}
 use Rattle.armv8.proofs.ob.ob.Statement.{statement}
 use Rattle.armv8.proofs.ob.ob.Tie as tie
@@ -105,7 +106,8 @@ returns c =
     let dob = after-dob .dob .ensures B refl refl refl refl refl refl i j in
     let aob = after-aob .aob .ensures B refl refl refl i in
     let bob = after-bob .bob .ensures B refl refl refl refl refl refl refl j in
-    c .or3 .ensures ∙ ap₂ either (c .before .or2 .ensures ∙ ap₂ either (c .before .before .or .ensures ∙ ap₂ either obs dob) aob) bob
+    holds B ob
+    (is-union (is-union (is-union (given obs) (given dob) (c .before .before .or .ensures)) (given aob) (c .before .or2 .ensures)) (given bob) (c .or3 .ensures))
 
 pub ob-spec : {M : Type 1} → statement M
 ob-spec =

@@ -1,5 +1,6 @@
 -- `ob::obs` meets its contract: its definition, call by call. Assumes nothing.
-use Rattle.models.specs.Term.{eval}
+use Rattle.models.specs.Armv8.{obs}
+use Rattle.verdict.proofs.TermLaws.{holds, given, is-union}
 use borrow.Author.Needs.{needs}
 use Rattle.armv8.proofs.ob.obs.Statement.{statement}
 use Rattle.armv8.proofs.ob.obs.Tie as tie
@@ -11,8 +12,7 @@ or-requires-2 : tie.Need-or-requires-2
 or-requires-2 c κs = search needs
 
 returns : tie.Need-returns
-unfolding eval
-returns c = λ B x f k. cc
+returns c = λ B x f k. holds B obs (is-union (is-union (given x) (given f) (c .before .or .ensures)) (given k) (c .or2 .ensures))
 
 pub obs-spec : {M : Type 1} → statement M
 obs-spec = tie.close (tie.spec or-requires or-requires-2 returns)

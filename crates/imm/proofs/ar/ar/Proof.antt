@@ -1,9 +1,9 @@
 -- `ar::ar` meets its contract: its parts, one after the other. Assumes nothing.
-use mathlib.Core.Path.{refl, ap₂, _∙_}
-use Rattle.relation.specs.Rel.{either}
+use mathlib.Core.Path.{refl}
 use Rattle.models.specs.Term.{eval}
+use Rattle.models.specs.Imm.{ar}
 use Rattle.verdict.specs.Base.{baseOf}
-use Rattle.verdict.proofs.ChainLaws.{between}
+use Rattle.verdict.proofs.TermLaws.{holds, given, is-union, is-from, is-into}
 use borrow.Author.Needs.{needs}
 use Rattle.imm.proofs.ar.ar.Statement.{statement}
 use Rattle.imm.proofs.ar.ar.Tie as tie
@@ -25,24 +25,6 @@ array-copy-out-bob-3 c = search needs
 
 bob-requires : tie.Need-bob-requires
 bob-requires c κs = search needs
-
-array-copy-out-deps : tie.Need-array-copy-out-deps
-array-copy-out-deps c = search needs
-
-array-copy-out-deps-2 : tie.Need-array-copy-out-deps-2
-array-copy-out-deps-2 c = search needs
-
-array-copy-out-deps-3 : tie.Need-array-copy-out-deps-3
-array-copy-out-deps-3 c = search needs
-
-array-copy-out-deps-4 : tie.Need-array-copy-out-deps-4
-array-copy-out-deps-4 c = search needs
-
-array-copy-out-deps-5 : tie.Need-array-copy-out-deps-5
-array-copy-out-deps-5 c = search needs
-
-array-copy-out-deps-6 : tie.Need-array-copy-out-deps-6
-array-copy-out-deps-6 c = search needs
 
 deps-requires : tie.Need-deps-requires
 deps-requires c κs = search needs
@@ -89,25 +71,26 @@ or-requires-5 c κs = search needs
 returns : tie.Need-returns
 unfolding eval baseOf
 returns c =
-    λ l x i k h e. let after-from = c .before .before .before .before .before in
+    λ l x i k h e. let after-or2 = c .before .before .before in
+    let after-from = after-or2 .before .before in
     let after-into = after-from .before in
     let after-psc = after-into .before .before in
     let after-detour = after-psc .before .before in
     let after-ppo = after-detour .before in
     let after-deps = after-ppo .before .before in
-    let after-bob = after-deps .before .before .before .before .before .before .before in
-    let after-writes = after-bob .before .before .before .before in
-    let a = after-writes .before .before .args in
+    let after-bob = after-deps .before in
+    let a = after-bob .before .before .before .before .before .before .args in
     let B = baseOf (a .t1) (a .t2) in
     let bob = after-bob .bob .ensures B refl refl refl refl refl l in
-    let deps = after-deps .deps .ensures B refl refl refl refl refl refl refl in
-    let ppo = after-ppo .ppo .ensures B refl refl i deps in
+    let ppo = after-ppo .ppo .ensures B refl refl i (after-deps .deps .ensures) in
     let detour = after-detour .detour .ensures B refl x k in
     let psc = after-psc .psc .ensures B refl h e in
-    let strong = between _ _ _ _ _ (after-into .into .ensures) (after-from .from .ensures) in
-    let barriers = c .before .before .before in
-    let three = barriers .or2 .ensures ∙ ap₂ either (barriers .before .or .ensures ∙ ap₂ either x bob) ppo in
-    c .or5 .ensures ∙ ap₂ either (c .before .or4 .ensures ∙ ap₂ either (c .before .before .or3 .ensures ∙ ap₂ either three detour) psc) strong
+    holds B ar
+    (is-union
+    (is-union
+    (is-union (is-union (is-union (given x) (given bob) (after-or2 .before .or .ensures)) (given ppo) (after-or2 .or2 .ensures)) (given detour)
+    (c .before .before .or3 .ensures)) (given psc) (c .before .or4 .ensures))
+    (is-from _ refl (is-into _ refl (given refl) (after-into .into .ensures)) (after-from .from .ensures)) (c .or5 .ensures))
 
 pub ar-spec : {M : Type 1} → statement M
 ar-spec =
@@ -119,12 +102,6 @@ ar-spec =
     array-copy-out-bob-2
     array-copy-out-bob-3
     bob-requires
-    array-copy-out-deps
-    array-copy-out-deps-2
-    array-copy-out-deps-3
-    array-copy-out-deps-4
-    array-copy-out-deps-5
-    array-copy-out-deps-6
     deps-requires
     array-copy-out-ppo
     ppo-requires

@@ -1,5 +1,7 @@
 -- `ar::detour` meets its contract: its definition, call by call. Assumes nothing.
 use Rattle.models.specs.Term.{eval}
+use Rattle.models.specs.Imm.{detour}
+use Rattle.verdict.proofs.TermLaws.{holds, given, is-meet, is-then}
 use borrow.Author.Needs.{needs}
 use Rattle.imm.proofs.ar.detour.Statement.{statement}
 use Rattle.imm.proofs.ar.detour.Tie as tie
@@ -12,7 +14,7 @@ and-requires c κs = search needs
 
 returns : tie.Need-returns
 unfolding eval
-returns c = λ B p x k. cc
+returns c = λ B p x k. holds B detour (is-meet (is-then (given k) (given x) (c .before .then .ensures)) (given p) (c .and .ensures))
 
 pub detour-spec : {M : Type 1} → statement M
 detour-spec = tie.close (tie.spec then-requires and-requires returns)

@@ -1,7 +1,6 @@
 -- `ar::ppo` meets its contract: its definition, call by call. Assumes nothing.
-use Rattle.relation.specs.Bits.{edge}
-use Rattle.models.specs.Term.{eval}
-use Rattle.verdict.proofs.ChainLaws.{from-set, into-set}
+use Rattle.models.specs.Imm.{ppo}
+use Rattle.verdict.proofs.TermLaws.{holds, given, is-union, is-plus, is-from, is-into}
 use borrow.Author.Needs.{needs}
 use Rattle.imm.proofs.ar.ppo.Statement.{statement}
 use Rattle.imm.proofs.ar.ppo.Tie as tie
@@ -19,10 +18,11 @@ from-requires : tie.Need-from-requires
 from-requires c κs = search needs
 
 returns : tie.Need-returns
-unfolding eval
 returns c =
-    λ B r w i d. let a = c .before .before .before .before .args in
-    cc (into-set (a .writes) (edge (c .before .before .closure .result)), from-set (a .reads) (edge (c .before .into .result)))
+    λ B r w i d. let after-closure = c .before .before in
+    holds B ppo
+    (is-from _ r (is-into _ w (is-plus (is-union (given d) (given i) (after-closure .before .or .ensures)) (after-closure .closure .ensures)) (c .before .into .ensures))
+    (c .from .ensures))
 
 pub ppo-spec : {M : Type 1} → statement M
 ppo-spec = tie.close (tie.spec or-requires closure-requires into-requires from-requires returns)

@@ -1,8 +1,11 @@
 -- `hb::eco` meets its contract: co and fr go on together. Assumes nothing.
-use Rattle.relation.specs.Rel.{chain, nodes}
+use mathlib.Core.Path.{refl, sym, ap, _∙_}
+use Rattle.relation.specs.Rel.{Rel, either, chain, nodes}
 use Rattle.relation.specs.Bits.{edge}
 use Rattle.models.specs.Term.{eval}
+use Rattle.models.specs.Imm.{eco}
 use Rattle.verdict.proofs.ChainLaws.{either-chain, either-assoc}
+use Rattle.verdict.proofs.TermLaws.{holds, given, is-union, is-then, is-opt}
 use borrow.Author.Needs.{needs}
 use Rattle.imm.proofs.hb.eco.Statement.{statement}
 use Rattle.imm.proofs.hb.eco.Tie as tie
@@ -22,9 +25,13 @@ or-requires-2 c κs = search needs
 returns : tie.Need-returns
 unfolding eval
 returns c =
-    λ B e f k r. let a = c .before .before .before .before .args in
-    let o = edge (c .before .before .optional .result) in
-    cc (either-chain (edge (a .co)) (edge (a .fr)) o, either-assoc (edge (a .rf)) (chain nodes (edge (a .co)) o) (chain nodes (edge (a .fr)) o))
+    λ B e f k r. let after-optional = c .before .before in
+    let a = after-optional .before .before .args in
+    let rest = edge (after-optional .optional .result) in
+    let parted = c .before .then .ensures ∙ ap (λ (s : Rel). chain nodes s rest) (after-optional .before .or .ensures) ∙ either-chain (edge (a .co)) (edge (a .fr)) rest in
+    holds B eco
+    (is-union (is-union (given f) (is-then (given k) (is-opt e (given f) (after-optional .optional .ensures)) refl) refl)
+    (is-then (given r) (is-opt e (given f) (after-optional .optional .ensures)) refl) (c .or2 .ensures ∙ ap (either (edge (a .rf))) parted ∙ sym (either-assoc _ _ _)))
 
 pub eco-spec : {M : Type 1} → statement M
 eco-spec = tie.close (tie.spec or-requires optional-requires then-requires or-requires-2 returns)

@@ -1,7 +1,7 @@
 -- `hb::release` meets its contract: its definition, call by call. Assumes nothing.
-use Rattle.relation.specs.Bits.{edge}
 use Rattle.models.specs.Term.{eval}
-use Rattle.verdict.proofs.ChainLaws.{from-set}
+use Rattle.models.specs.Imm.{release}
+use Rattle.verdict.proofs.TermLaws.{holds, given, is-union, is-then, is-set, is-from}
 use borrow.Author.Needs.{needs}
 use Rattle.imm.proofs.hb.release.Statement.{statement}
 use Rattle.imm.proofs.hb.release.Tie as tie
@@ -21,8 +21,10 @@ then-requires c κs = search needs
 returns : tie.Need-returns
 unfolding eval
 returns c =
-    λ B w f p s. let a = c .before .before .before .before .args in
-    cc (from-set (a .frel) (edge (a .po)))
+    λ B w f p s. let after-from = c .before .before in
+    holds B release
+    (is-then (is-union (is-set w (after-from .before .identity .ensures)) (is-from _ f (given p) (after-from .from .ensures)) (c .before .or .ensures)) (given s)
+    (c .then .ensures))
 
 pub release-spec : {M : Type 1} → statement M
 release-spec =

@@ -1,8 +1,9 @@
 -- `hb::steps` meets its contract: release sequence, release and sw, one after the other. Assumes nothing.
-use mathlib.Core.Path.{refl, ap, _∙_}
-use Rattle.relation.specs.Rel.{either}
-use Rattle.models.specs.Term.{eval}
+use mathlib.Core.Path.{refl}
+use Rattle.models.specs.Term.{po, _∪_, eval}
+use Rattle.models.specs.Imm.{sw}
 use Rattle.verdict.specs.Base.{baseOf}
+use Rattle.verdict.proofs.TermLaws.{holds, given, is-union}
 use borrow.Author.Needs.{needs}
 use Rattle.imm.proofs.hb.steps.Statement.{statement}
 use Rattle.imm.proofs.hb.steps.Tie as tie
@@ -59,7 +60,7 @@ returns c =
     let B = baseOf (a .t1) (a .t2) in
     let rs = after-rs .rs .ensures B refl refl l refl refl in
     let release = after-release .release .ensures B refl refl refl rs in
-    c .or .ensures ∙ ap (either _) (after-sw .sw .ensures B refl refl refl refl l x i release)
+    holds B (po ∪ sw) (is-union (given refl) (given (after-sw .sw .ensures B refl refl refl refl l x i release)) (c .or .ensures))
 
 pub steps-spec : {M : Type 1} → statement M
 steps-spec =

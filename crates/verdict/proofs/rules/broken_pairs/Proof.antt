@@ -1,5 +1,7 @@
 -- `rules::broken_pairs` meets its contract: its definition, call by call. Assumes nothing.
 use Rattle.models.specs.Term.{eval}
+use Rattle.models.specs.Rules.{broken-pair}
+use Rattle.verdict.proofs.TermLaws.{holds, given, is-meet, is-then}
 use borrow.Author.Needs.{needs}
 use Rattle.verdict.proofs.rules.broken_pairs.Statement.{statement}
 use Rattle.verdict.proofs.rules.broken_pairs.Tie as tie
@@ -12,7 +14,7 @@ and-requires c κs = search needs
 
 returns : tie.Need-returns
 unfolding eval
-returns c = λ B p q r. cc
+returns c = λ B p q r. holds B broken-pair (is-meet (given p) (is-then (given q) (given r) (c .before .then .ensures)) (c .and .ensures))
 
 pub broken-pairs-spec : {M : Type 1} → statement M
 broken-pairs-spec = tie.close (tie.spec then-requires and-requires returns)

@@ -1,5 +1,6 @@
 -- `rules::fr` meets its contract: its definition, call by call. Assumes nothing.
-use Rattle.models.specs.Term.{eval}
+use Rattle.models.specs.Term.{eval, fr}
+use Rattle.verdict.proofs.TermLaws.{holds, given, is-inverse, is-then}
 use borrow.Author.Needs.{needs}
 use Rattle.verdict.proofs.rules.fr.Statement.{statement}
 use Rattle.verdict.proofs.rules.fr.Tie as tie
@@ -12,7 +13,7 @@ then-requires c κs = search needs
 
 returns : tie.Need-returns
 unfolding eval
-returns c = λ B p q. cc
+returns c = λ B p q. holds B fr (is-then (is-inverse (given p) (c .before .inverse .ensures)) (given q) (c .then .ensures))
 
 pub fr-spec : {M : Type 1} → statement M
 fr-spec = tie.close (tie.spec inverse-requires then-requires returns)

@@ -1,4 +1,4 @@
--- `rules::unordered` meets its contract. No write below a has an open peer; in a's own turn no number below b is one. Assumes nothing.
+-- `rules::unordered` meets its contract. No write below a has an unsettled peer; in a's own turn no number below b is one. Assumes nothing.
 use Prim.Native.Nat.{ℕ, _-_, _≤_, _<_}
 use mathlib.Core.Path.{_≡_, sym, subst, _∙_}
 use mathlib.Core.Logic.{inl, inr}
@@ -8,7 +8,7 @@ use Rattle.relation.specs.Rel.{Rel}
 use Rattle.verdict.specs.Shown.{FirstPair}
 use mathlib.Core.Bool.{false}
 use Rattle.relation.specs.Bits.{bit, edge}
-use Rattle.verdict.proofs.PairLaws.{openFor, Passed, passed-none, passed-more, passed-found, passed-all, open-no, open-yes, unordered-is}
+use Rattle.verdict.proofs.PairLaws.{unsettled-of, Passed, passed-none, passed-more, passed-found, passed-all, unsettled-no, unsettled-yes, unordered-is}
 use borrow.Author.Needs.{needs}
 use Rattle.verdict.proofs.rules.unordered.Statement.{statement}
 use Rattle.verdict.proofs.rules.unordered.Tie as tie
@@ -20,7 +20,7 @@ abbrev μ-loop : tie.MeasureT-loop
 μ-loop writes loc settled a b₀ unsettled b = 64 - b
 
 abbrev Inv-pairs : tie.InvT-pairs
-Inv-pairs writes loc settled a₀ b₀ a b = Passed (openFor (bit writes) (edge loc) (edge settled)) a
+Inv-pairs writes loc settled a₀ b₀ a b = Passed (unsettled-of (bit writes) (edge loc) (edge settled)) a
 
 abbrev μ-pairs : tie.MeasureT-pairs
 μ-pairs writes loc settled a₀ b₀ a b = 64 - a
@@ -88,9 +88,9 @@ pairs-again c =
     let turn = c .before .before in
     elim (c .if1 .came) [
       | inl w ↦ passed-more _ _ (turn .before .pairs .inv) (turn .pairs-test .taken)
-          (λ x h. open-yes _ _ _ _ _ _ (sym (c .before .has .ensures) ∙ w .0 .taken) (w .2 .ensures) (w .4 .ensures) x ∙ w .5 .inv .1 x (omega (arith, w .6 .left)))
+          (λ x h. unsettled-yes _ _ _ _ _ _ (sym (c .before .has .ensures) ∙ w .0 .taken) (w .2 .ensures) (w .4 .ensures) x ∙ w .5 .inv .1 x (omega (arith, w .6 .left)))
       | inr w ↦ passed-more _ _ (turn .before .pairs .inv) (turn .pairs-test .taken)
-          (λ x h. open-no _ _ _ _ (sym (c .before .has .ensures) ∙ w .0 .left) x)
+          (λ x h. unsettled-no _ _ _ _ (sym (c .before .has .ensures) ∙ w .0 .left) x)
     ]
 
 returns : tie.Need-returns Inv-loop μ-loop Inv-pairs μ-pairs
@@ -108,8 +108,8 @@ returns-2 c =
     let test = row .before .before .before .before .before in
     let turn = test .before in
     let made = turn .before .before in
-    let at : (x : ℕ) → openFor (bit (made .before .before .before .args .writes)) (edge (made .before .before .before .args .t2)) (edge (made .optional .result)) (turn .before .pairs .a) x ≡ bit (row .minus .result) x
-    = open-yes _ _ _ _ _ _ (sym (test .has .ensures) ∙ row .before .before .before .before .if1 .taken) (row .before .before .and .ensures) (row .minus .ensures) in
+    let at : (x : ℕ) → unsettled-of (bit (made .before .before .before .args .writes)) (edge (made .before .before .before .args .t2)) (edge (made .optional .result)) (turn .before .pairs .a) x ≡ bit (row .minus .result) x
+    = unsettled-yes _ _ _ _ _ _ (sym (test .has .ensures) ∙ row .before .before .before .before .if1 .taken) (row .before .before .and .ensures) (row .minus .ensures) in
     subst (λ (f : Rel). FirstPair f (turn .before .pairs .a) (loop .loop .b))
     (unordered-is _ _ _ _ _ _ (made .before .before .inverse .ensures) (made .before .or .ensures) (made .optional .ensures) B p q r)
     (passed-found _ _ _ (turn .before .pairs .inv) (turn .pairs-test .taken) (c .before .before .loop-test .taken)

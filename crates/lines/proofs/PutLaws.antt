@@ -1,0 +1,165 @@
+-- Laws of a text that grows: byte by byte, by a word, by a number in decimal, and by a row of such. Assumes nothing.
+use mathlib.Core.Path.{_≡_, refl, sym, ap, subst, _∙_}
+use mathlib.Core.List.{List, [], _∷_, _++_, map, append-assoc, append-nil}
+use mathlib.Core.Bool.{Bool, true, false, cond}
+use Prim.Native.Nat.{ℕ, suc, _+_, _*_, _/_, _%_, _<_, _≤_}
+use native.Mathlib.Nat.{le-antisymm}
+use native.Mathlib.Numerals.{add-one}
+use native.Mathlib.Omega.{arith}
+use borrow.Author.Tests.{lt-ltb, le-ltb}
+use lib.Dec.{ltb}
+use lib.ListN.{length, getD, take, set, length-append, length-set}
+use lib.Seq.{sets, take-suc, take-suc-set, take-all, length-take-le}
+use Rattle.lines.specs.declared.Text.{Text}
+use Rattle.lines.specs.Lines.{digit, decimal, spaced}
+use Rattle.lines.specs.Put.{bytes, Room, Put}
+
+-- Nothing is put, one byte is put, and what is put is put behind what was put before.
+pub put-none : (t : Text) → t .len ≤ 320 → Put t [] t
+put-none t h = record { holds = sym (append-nil (bytes t)); size = omega arith; bound = h }
+
+pub put-one : (t : Text) (b : ℕ) → length (t .at) ≡ 320 → Room t 1
+    → Put t (b ∷ []) (record { at = set (t .at) (t .len) b; len = t .len + 1 })
+put-one t b l h =
+    record {
+      holds = rw (add-one (t .len), take-suc-set (t .at) (t .len) b (omega arith));
+      size = omega arith;
+      bound = h;
+    }
+
+pub put-then : {t u r : Text} {l m : List ℕ} → Put t l u → Put u m r → Put t (l ++ m) r
+put-then {t} {u} {r} {l} {m} p q =
+    record {
+      holds = q .holds ∙ ap (λ (k : List ℕ). k ++ m) (p .holds) ∙ append-assoc (bytes t) l m;
+      size = omega (arith, p .size, q .size, length-append l m);
+      bound = q .bound;
+    }
+
+put-as : {t r : Text} {l m : List ℕ} → l ≡ m → Put t l r → Put t m r
+put-as {t} {r} e p = subst (λ (k : List ℕ). Put t k r) e p
+
+-- Behind no bytes only what is put stands.
+pub put-first : {t r : Text} {l : List ℕ} → t .len ≡ 0 → Put t l r → bytes r ≡ l
+put-first {t} {r} {l} e p = p .holds ∙ ap (λ (n : ℕ). take n (t .at) ++ l) e
+
+-- k bytes of the word w are put.
+pub record Word (t : Text) (w : List ℕ) (k : ℕ) (r : Text) : Type 0 where
+  pub within : k ≤ length w
+  pub put : Put t (take k w) r
+
+module _ (t : Text) (w : List ℕ) where
+  pub word-none : t .len ≤ 320 → Word t w 0 t
+  word-none h = record { within = omega arith; put = put-none t h }
+
+  module _ (k : ℕ) (r : Text) (p : Word t w k r) where
+    pub word-room : Room t (length w) → k < length w → Room r 1
+    word-room h lt = omega (arith, p .put .size, length-take-le k w (p .within))
+
+    pub word-more : (z : Text) → k < length w → Put r (getD w k 0 ∷ []) z → Word t w (k + 1) z
+    word-more z lt q =
+        record {
+          within = omega arith;
+          put = put-as (sym (take-suc w k 0 lt) ∙ ap (λ (n : ℕ). take n w) (sym (add-one k))) (put-then (p .put) q);
+        }
+
+    pub word-all : length w ≤ k → Put t w r
+    word-all h = put-as (take-all k w h) (p .put)
+
+-- A number in decimal, by the number of its digits.
+decimal1 : (n : ℕ) → n < 10 → decimal n ≡ digit n ∷ []
+unfolding decimal
+decimal1 n h = rw (lt-ltb n 10 h)
+
+decimal2 : (n : ℕ) → 10 ≤ n → n < 100 → decimal n ≡ digit (n / 10) ∷ digit (n % 10) ∷ []
+unfolding decimal
+decimal2 n g h = rw (le-ltb n 10 g, lt-ltb n 100 h)
+
+decimal3 : (n : ℕ) → 100 ≤ n → decimal n ≡ digit (n / 100) ∷ digit (n / 10 % 10) ∷ digit (n % 10) ∷ []
+unfolding decimal
+decimal3 n h = rw (le-ltb n 10 (omega arith), le-ltb n 100 h)
+
+decimal-short : (n : ℕ) → length (decimal n) ≤ 3
+unfolding decimal
+decimal-short n =
+    go (ltb n 10) (ltb n 100) (digit n) (digit (n / 10)) (digit (n / 100)) (digit (n / 10 % 10)) (digit (n % 10))
+  where
+    go : (p q : Bool) (a b d e f : ℕ) → length (cond p (a ∷ []) (cond q (b ∷ f ∷ []) (d ∷ e ∷ f ∷ []))) ≤ 3
+    go true q a b d e f = omega arith
+    go false true a b d e f = omega arith
+    go false false a b d e f = omega arith
+
+pub put-decimal1 : {t r : Text} (n : ℕ) → n < 10 → Put t (digit n ∷ []) r → Put t (decimal n) r
+put-decimal1 n h p = put-as (sym (decimal1 n h)) p
+
+pub put-decimal2 : {t u r : Text} (n : ℕ) → 10 ≤ n → n < 100 → Put t (digit (n / 10) ∷ []) u → Put u (digit (n % 10) ∷ []) r
+    → Put t (decimal n) r
+put-decimal2 n g h p q = put-as (sym (decimal2 n g h)) (put-then p q)
+
+pub put-decimal3 : {t u v r : Text} (n : ℕ) → 100 ≤ n → Put t (digit (n / 100) ∷ []) u → Put u (digit (n / 10 % 10) ∷ []) v
+    → Put v (digit (n % 10) ∷ []) r → Put t (decimal n) r
+put-decimal3 n h p q s = put-as (sym (decimal3 n h)) (put-then (put-then p q) s)
+
+pub number-short : {t r : Text} (n : ℕ) → Put t (32 ∷ decimal n) r → r .len ≤ t .len + 4
+number-short n p = omega (arith, p .size, decimal-short n)
+
+-- The first k of at are put in decimal, each with a space before it.
+spaced-last : (l : List ℕ) (n : ℕ) → spaced (map decimal (l ++ (n ∷ []))) ≡ spaced (map decimal l) ++ (32 ∷ decimal n)
+spaced-last [] n = append-nil (32 ∷ decimal n)
+spaced-last (m ∷ l) n =
+    ap (λ (k : List ℕ). (32 ∷ decimal m) ++ k) (spaced-last l n)
+    ∙ sym (append-assoc (32 ∷ decimal m) (spaced (map decimal l)) (32 ∷ decimal n))
+
+pub record Numbers (t : Text) (at : List ℕ) (k : ℕ) (r : Text) : Type 0 where
+  pub put : Put t (spaced (map decimal (take k at))) r
+  pub short : r .len ≤ t .len + 4 * k
+
+module _ (t : Text) (at : List ℕ) where
+  pub numbers-none : t .len ≤ 320 → Numbers t at 0 t
+  numbers-none h = record { put = put-none t h; short = omega arith }
+
+  pub numbers-more : (k : ℕ) (r z : Text) → Numbers t at k r → k < length at → Put r (32 ∷ decimal (getD at k 0)) z
+      → z .len ≤ r .len + 4 → Numbers t at (k + 1) z
+  numbers-more k r z p lt q s =
+      record {
+        put = put-as
+            (sym (spaced-last (take k at) (getD at k 0))
+            ∙ ap (λ (l : List ℕ). spaced (map decimal l)) (sym (take-suc at k 0 lt) ∙ ap (λ (n : ℕ). take n at) (sym (add-one k))))
+            (put-then (p .put) q);
+        short = omega (arith, p .short, s);
+      }
+
+  pub numbers-all : (n k : ℕ) (r : Text) → k ≤ n → n ≤ k → Numbers t at k r → Numbers t at n r
+  numbers-all n k r h g p = subst (λ (m : ℕ). Numbers t at m r) (le-antisymm h g) p
+
+-- A run of stores and one store more.
+sets-last : (l : List ℕ) (i : ℕ) (vs : List ℕ) (v : ℕ) → set (sets l i vs) (i + length vs) v ≡ sets l i (vs ++ (v ∷ []))
+sets-last l i [] v = ap (λ (k : ℕ). set l k v) (same i)
+  where
+    same : (i : ℕ) → i + 0 ≡ i
+    same i = omega arith
+sets-last l i (a ∷ vs) v = ap (λ (k : ℕ). set (sets (set l i a) (suc i) vs) k v) same ∙ sets-last (set l i a) (suc i) vs v
+  where
+    same : i + suc (length vs) ≡ suc i + length vs
+    same = omega arith
+
+-- The first k of w are stored in l from the place i on, which gives o.
+pub record Stored (l : List ℕ) (i : ℕ) (w : List ℕ) (k : ℕ) (o : List ℕ) : Type 0 where
+  pub long : length o ≡ length l
+  pub holds : o ≡ sets l i (take k w)
+
+module _ (l : List ℕ) (i : ℕ) (w : List ℕ) where
+  pub stored-none : Stored l i w 0 l
+  stored-none = record { long = refl; holds = refl }
+
+  pub stored-more : (k : ℕ) (o : List ℕ) → k < length w → Stored l i w k o → Stored l i w (k + 1) (set o (i + k) (getD w k 0))
+  stored-more k o lt p =
+      record {
+        long = length-set o (i + k) (getD w k 0) ∙ p .long;
+        holds = ap (λ (m : List ℕ). set m (i + k) (getD w k 0)) (p .holds)
+            ∙ ap (λ (j : ℕ). set (sets l i (take k w)) (i + j) (getD w k 0)) (sym (length-take-le k w (omega arith)))
+            ∙ sets-last l i (take k w) (getD w k 0)
+            ∙ ap (sets l i) (sym (take-suc w k 0 lt) ∙ ap (λ (n : ℕ). take n w) (sym (add-one k)));
+      }
+
+  pub stored-all : (n k : ℕ) (o : List ℕ) → k ≤ n → n ≤ k → Stored l i w k o → o ≡ sets l i (take n w)
+  stored-all n k o h g p = p .holds ∙ ap (λ (m : ℕ). sets l i (take m w)) (le-antisymm h g)

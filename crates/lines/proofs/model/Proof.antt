@@ -1,0 +1,49 @@
+-- `model` meets its contract: each word is put where nothing stood. Assumes nothing.
+use mathlib.Core.Path.{sym, ap, _∙_}
+use native.Mathlib.Omega.{arith}
+use Rattle.lines.specs.Lines.{modelWord}
+use Rattle.lines.proofs.PutLaws.{put-first}
+use borrow.Author.Needs.{needs}
+use Rattle.lines.proofs.model.Statement.{statement}
+use Rattle.lines.proofs.model.Tie as tie
+
+empty-requires : tie.Need-empty-requires
+empty-requires c κs = search needs
+
+slice-aggregate-put-word : tie.Need-slice-aggregate-put-word
+slice-aggregate-put-word c = search needs
+
+put-word-requires : tie.Need-put-word-requires
+put-word-requires c κs = search needs
+
+returns : tie.Need-returns
+returns c =
+    let start = c .before .before .before .empty .ensures in (
+      put-first start (c .put-word .ensures) ∙ ap modelWord (sym (c .before .before .if1 .taken)),
+      omega (arith, start, c .put-word .ensures .size),
+    )
+
+slice-aggregate-put-word-2 : tie.Need-slice-aggregate-put-word-2
+slice-aggregate-put-word-2 c = search needs
+
+put-word-requires-2 : tie.Need-put-word-requires-2
+put-word-requires-2 c κs = search needs
+
+returns-2 : tie.Need-returns-2
+returns-2 c =
+    let start = c .before .before .before .empty .ensures in (
+      put-first start (c .put-word2 .ensures) ∙ ap modelWord (sym (c .before .before .if1 .left)),
+      omega (arith, start, c .put-word2 .ensures .size),
+    )
+
+pub model-spec : {M : Type 1} → statement M
+model-spec =
+    tie.close
+    (tie.spec
+    empty-requires
+    slice-aggregate-put-word
+    put-word-requires
+    returns
+    slice-aggregate-put-word-2
+    put-word-requires-2
+    returns-2)

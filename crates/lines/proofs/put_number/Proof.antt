@@ -1,0 +1,17 @@
+-- `put_number` meets its contract: a number has at most three digits. Assumes nothing.
+use Rattle.lines.proofs.PutLaws.{put-then, number-short}
+use borrow.Author.Needs.{needs}
+use Rattle.lines.proofs.put_number.Statement.{statement}
+use Rattle.lines.proofs.put_number.Tie as tie
+
+put-requires : tie.Need-put-requires
+put-requires c κs = search needs
+
+put-decimal-requires : tie.Need-put-decimal-requires
+put-decimal-requires c κs = search needs
+
+returns : tie.Need-returns
+returns c = let p = put-then (c .before .put .ensures) (c .put-decimal .ensures) in (p, number-short (c .before .before .args .n) p)
+
+pub put-number-spec : {M : Type 1} → statement M
+put-number-spec = tie.close (tie.spec put-requires put-decimal-requires returns)

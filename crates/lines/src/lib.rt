@@ -1,0 +1,146 @@
+// The lines that the judge prints, as bytes: a line is made in a text, which is then put into a lent slice.
+// The line is that of specs/Lines.antt; nothing is assumed of a verdict but that it shows at most 64 events.
+
+use verdict::Answer;
+use verdict::Verdict;
+ghost use mathlib.Core.Path.{_≡_};
+ghost use mathlib.Core.List.{[], _∷_, map};
+ghost use Prim.Native.Nat.{_+_, _*_, _≤_};
+ghost use lib.ListN.{length, take};
+ghost use lib.Seq.{sets};
+ghost use Rattle.lines.specs.Lines.{modelWord, decimal, spaced, lineOf};
+ghost use Rattle.lines.specs.Put.{bytes, Room, Put};
+
+// Bytes: the first len of at.
+pub struct Text {
+    pub at: [u8; 320],
+    pub len: usize,
+}
+
+// No bytes.
+fn empty() -> Text
+    ensures { λ r. ⌜ r .len ≡ 0 ⌝ }
+{
+    Text {
+        at: [0u8; 320],
+        len: 0,
+    }
+}
+
+// t and then the byte b.
+fn put(t: Text, b: u8) -> Text
+    requires { ⌜ Room t 1 ⌝ }
+    ensures { λ r. ⌜ Put t (b ∷ []) r ⌝ }
+{
+    let mut at = t.at;
+    let n = t.len;
+    at[n] = b;
+    Text { at, len: n + 1 }
+}
+
+// t and then the bytes of w.
+fn put_word(t: Text, w: &[u8]) -> Text
+    requires { ⌜ Room t (length (now w)) ⌝ }
+    ensures { λ r. ⌜ Put t (now (w .entry)) r ⌝ }
+{
+    let mut r = t;
+    let mut k = 0;
+    while k < w.len() {
+        let z = put(r, w[k]);
+        r = z;
+        k += 1;
+    }
+    r
+}
+
+// t and then n in decimal.
+fn put_decimal(t: Text, n: u8) -> Text
+    requires { ⌜ Room t 3 ⌝ }
+    ensures { λ r. ⌜ Put t (decimal n) r ⌝ }
+{
+    if n < 10 {
+        return put(t, 48 + n);
+    }
+    if n < 100 {
+        return put(put(t, 48 + n / 10), 48 + n % 10);
+    }
+    put(put(put(t, 48 + n / 100), 48 + n / 10 % 10), 48 + n % 10)
+}
+
+// t and then a space and n in decimal, at most four bytes.
+fn put_number(t: Text, n: u8) -> Text
+    requires { ⌜ Room t 4 ⌝ }
+    ensures put { λ r. ⌜ Put t (32 ∷ decimal n) r ⌝ }
+    ensures short { λ r. ⌜ r .len ≤ t .len + 4 ⌝ }
+{
+    put_decimal(put(t, b' '), n)
+}
+
+// t and then the first len of at in decimal, each with a space before it.
+fn put_events(t: Text, at: [u8; 64], len: usize) -> Text
+    requires { ⌜ (len ≤ 64) × Room t (4 * len) ⌝ }
+    ensures put { λ r. ⌜ Put t (spaced (map decimal (take len at))) r ⌝ }
+    ensures short { λ r. ⌜ r .len ≤ t .len + 4 * len ⌝ }
+{
+    let mut r = t;
+    let mut i: usize = 0;
+    while i < len {
+        let z = put_number(r, at[i]);
+        r = z;
+        i += 1;
+    }
+    r
+}
+
+// The model's word.
+fn model(chip: bool) -> Text
+    ensures word { λ r. ⌜ bytes r ≡ modelWord chip ⌝ }
+    ensures short { λ r. ⌜ r .len ≤ 6 ⌝ }
+{
+    let t = empty();
+    if chip {
+        return put_word(t, b"chip");
+    }
+    put_word(t, b"source")
+}
+
+// The line of a verdict under the chip's model or the source's.
+pub fn line(chip: bool, v: Verdict) -> Text
+    requires { ⌜ v .len ≤ 64 ⌝ }
+    ensures line { λ r. ⌜ bytes r ≡ lineOf (modelWord chip) (v .answer) (take (v .len) (v .at)) ⌝ }
+    ensures bounded { λ r. ⌜ r .len ≤ 320 ⌝ }
+{
+    let answer = v.answer;
+    let at = v.at;
+    let n = v.len;
+    match answer {
+        Answer::Refused(k) => {
+            let t = put_word(empty(), b"refused");
+            put(put_number(t, k), b'\n')
+        }
+        Answer::Allowed => {
+            let t = put_word(model(chip), b" allowed");
+            put(put_events(t, at, n), b'\n')
+        }
+        Answer::Broken(k) => {
+            let t = put_number(put_word(model(chip), b" broken"), k);
+            put(put_events(t, at, n), b'\n')
+        }
+    }
+}
+
+// The bytes of t stored in out from the place at on; answers the place behind them.
+pub fn put_line(t: Text, out: &mut [u8], at: usize) -> usize
+    requires { ⌜ (t .len ≤ 320) × (at + t .len ≤ length (now out)) ⌝ }
+    ensures end { λ r. ⌜ r ≡ at + t .len ⌝ }
+    ensures stored { λ r. ⌜ now (out .exit) ≡ sets (now (out .entry)) at (bytes t) ⌝ }
+{
+    let text = t.at;
+    let n = t.len;
+    let mut k: usize = 0;
+    while k < n {
+        out[at + k] = text[k];
+        k += 1;
+    }
+    at + n
+}

@@ -1,0 +1,83 @@
+-- Grids as the relations of a base: one law for each operator of a term, by the call that computes it. Assumes nothing.
+use mathlib.Core.Path.{_≡_, sym, ap, ap₂, _∙_}
+use mathlib.Core.List.{List}
+use Prim.Native.Nat.{ℕ}
+use Rattle.relation.specs.Rel.{Set, Rel, either, both, minus, inverse, identity, from, into, image, chain, plus, optional, star, nodes}
+use Rattle.relation.specs.Bits.{bit}
+use Rattle.models.specs.Recording.{SetName}
+use Rattle.models.specs.Graph.{Base}
+use Rattle.models.specs.Term.{Term, ⟨_⟩, ⟨codom_⟩, _⨾_, _∪_, _∩_, _∖_, opt, _⁻¹, _⁺, _*, eval}
+use Rattle.verdict.proofs.ChainLaws.{from-set, into-set, chain-assoc}
+
+-- r is the relation t of the base B.
+pub record Is (B : Base) (t : Term) (r : Rel) : Type 0 where
+  pub is : r ≡ eval nodes t B
+
+pub holds : (B : Base) (t : Term) {r : Rel} → Is B t r → r ≡ eval nodes t B
+holds B t p = p .is
+
+module _ {B : Base} where
+  pub given : {t : Term} {r : Rel} → r ≡ eval nodes t B → Is B t r
+  given e = record { is = e }
+
+  -- The operators.
+  module _ {t u : Term} {a b r : Rel} where
+    pub is-union : Is B t a → Is B u b → r ≡ either a b → Is B (t ∪ u) r
+    unfolding eval
+    is-union p q e = given (e ∙ ap₂ either (p .is) (q .is))
+
+    pub is-meet : Is B t a → Is B u b → r ≡ both a b → Is B (t ∩ u) r
+    unfolding eval
+    is-meet p q e = given (e ∙ ap₂ both (p .is) (q .is))
+
+    pub is-minus : Is B t a → Is B u b → r ≡ minus a b → Is B (t ∖ u) r
+    unfolding eval
+    is-minus p q e = given (e ∙ ap₂ minus (p .is) (q .is))
+
+    pub is-then : Is B t a → Is B u b → r ≡ chain nodes a b → Is B (t ⨾ u) r
+    unfolding eval
+    is-then p q e = given (e ∙ ap₂ (chain nodes) (p .is) (q .is))
+
+  module _ {t : Term} {a r : Rel} where
+    pub is-inverse : Is B t a → r ≡ inverse a → Is B (t ⁻¹) r
+    unfolding eval
+    is-inverse p e = given (e ∙ ap inverse (p .is))
+
+    pub is-plus : Is B t a → r ≡ plus nodes a → Is B (t ⁺) r
+    unfolding eval
+    is-plus p e = given (e ∙ ap (plus nodes) (p .is))
+
+    pub is-opt : {s : Set} → s ≡ B .E → Is B t a → r ≡ optional s a → Is B (opt t) r
+    unfolding eval
+    is-opt q p e = given (e ∙ ap₂ optional q (p .is))
+
+    pub is-star : {s : Set} → s ≡ B .E → Is B t a → r ≡ star nodes s a → Is B (t *) r
+    unfolding eval star
+    is-star q p e = given (e ∙ ap₂ (star nodes) q (p .is))
+
+  -- The identity on a set, alone, before and after a relation.
+  pub is-set : {n : SetName} {s : Set} {r : Rel} → s ≡ B .set n → r ≡ identity s → Is B ⟨ n ⟩ r
+  unfolding eval
+  is-set q e = given (e ∙ ap identity q)
+
+  module _ (row : List ℕ) {t : Term} {a r : Rel} where
+    pub is-from : {n : SetName} → bit row ≡ B .set n → Is B t a → r ≡ from (bit row) a → Is B (⟨ n ⟩ ⨾ t) r
+    unfolding eval
+    is-from q p e = given (e ∙ sym (from-set row a) ∙ ap₂ (λ (s : Set) (f : Rel). chain nodes (identity s) f) q (p .is))
+
+    pub is-into : {n : SetName} → bit row ≡ B .set n → Is B t a → r ≡ into a (bit row) → Is B (t ⨾ ⟨ n ⟩) r
+    unfolding eval
+    is-into q p e = given (e ∙ sym (into-set row a) ∙ ap₂ (λ (s : Set) (f : Rel). chain nodes f (identity s)) q (p .is))
+
+    pub is-from-codom : {u : Term} {c : Rel} {s : Set} → s ≡ B .E → Is B u c → bit row ≡ image nodes s c → Is B t a → r ≡ from (bit row) a
+        → Is B (⟨codom u ⟩ ⨾ t) r
+    unfolding eval
+    is-from-codom {c = c} {s = s} q w i p e =
+        given
+        (e ∙ sym (from-set row a)
+        ∙ ap₂ (λ (f : Set) (g : Rel). chain nodes (identity f) g) (i ∙ ap₂ (image nodes) q (w .is)) (p .is))
+
+  -- Terms in another order.
+  pub is-assoc : {t u v : Term} {r : Rel} → Is B ((t ⨾ u) ⨾ v) r → Is B (t ⨾ u ⨾ v) r
+  unfolding eval
+  is-assoc p = given (p .is ∙ chain-assoc _ _ _)
