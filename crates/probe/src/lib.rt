@@ -1,7 +1,6 @@
 // The probe's library: the calls that it offers to firmware, on numbers and slices, with C names and no condition on their arguments.
 
 use recording::causes;
-
 ghost use mathlib.Core.Path.{_≡_};
 ghost use Rattle.recording.specs.Causes.{refusal};
 

@@ -1,0 +1,4 @@
+-- The litmus table, proved.
+pub mod Recorded
+pub mod Loading
+pub mod Proved

@@ -1,0 +1,238 @@
+-- A test of loading that can be evaluated. Causes 8 and 9 close `next` and `co` over 64 numbers, at a cost that doubles with each;
+-- here they are closed over the records, and the sources of a read are sought among its links. A file that passes loads. Assumes nothing.
+use mathlib.Core.Path.{_≡_, refl, sym, ap, fun-ext, _∙_}
+use mathlib.Core.Bool.{Bool, true, false, not, _&&_, _||_, false≢true}
+use mathlib.Core.List.{List, [], _∷_, List·Memᴰ}
+use Prim.Native.Nat.{ℕ, _<_, _≤_}
+use native.Mathlib.Omega.{arith}
+use borrow.Author.Tests.{eqb-true, ltb-false, not-false}
+use lib.Dec.{T, eqb}
+use lib.ListN.{getD}
+use Rattle.relation.specs.Rel.{Set, Rel, union, either, diagonal, some, image, chain, through, plus, inverse, optional, below, nodes}
+use Rattle.relation.proofs.Meaning.{Mem, and-left, and-right, and-both, some-sound, some-complete}
+use Rattle.models.specs.Recording.{Recording, read, write, access, exclusiveRead, coStep, event, ofClass, flagged, sameLocation}
+use Rattle.models.specs.Steps.{Plus, one, cons}
+use Rattle.models.specs.Graph.{base}
+use Rattle.models.proofs.Tests.{T-ext, some-intro, some-witness, below-listed, plus-steps, Tests, plus-tests}
+use Rattle.models.proofs.Sets.{step-cases, CoStep, linked, initially}
+use Rattle.models.proofs.Table.{orAll}
+use Rattle.recording.specs.Layout.{kind, events, isSource, kindKnown, mostEvents, mostLinks, linkByte}
+use Rattle.recording.specs.Chains.{each, linksInto, among, follow, met, fresh, onceEach, nextOf, startOf}
+use Rattle.recording.specs.Decode.{isRecorded, isInitial, recordOr, fieldOr, decode}
+use Rattle.recording.specs.Causes.{readLegal, writeLegal, fenceMode, fenceLegal, legal, eventLegal, headerOver, sameLocations, rfLegal, coLegal, rmwLegal, fromRead, dataLegal, addrLegal, ctrlLegal, casdepLegal, linkLegal, linkSound, oneSource, allOf, linksSoundAt, pairedAt, tooShort, kindUnknown, overLimit, wrongLength, badEvent, badThreads, badChains, badLink, coRing, unpaired, refusal}
+use Rattle.recording.proofs.Truth.{is-true, holds, is-false}
+use Rattle.recording.proofs.FieldLaws.{recorded-bounds}
+use Rattle.recording.proofs.ChainLaws.{each-at}
+use Rattle.recording.proofs.Accepted.{Accepted, accepts, each-all}
+use Rattle.litmus.proofs.Recorded.{eventList, recorded-listed}
+
+-- One or more steps, over two lists that hold all that r joins.
+plus-relist : (es fs : List ℕ) (s : Set) (r : Rel) → ((e : ℕ) → T (s e) → List·Memᴰ e es) → ((e : ℕ) → T (s e) → List·Memᴰ e fs)
+    → ((a b : ℕ) → T (r a b) → T (s a)) → ((a b : ℕ) → T (r a b) → T (s b)) → plus es r ≡ plus fs r
+plus-relist es fs s r u v source target =
+    let t : Tests s r (λ a b. T (r a b)) = record { to = λ i j h. h; from = λ i j h. h; source = source; target = target } in
+    fun-ext λ i. fun-ext λ j. T-ext (plus es r i j) (plus fs r i j)
+    (λ h. plus-tests fs s v t .from i j (plus-tests es s u t .to i j h)) (λ h. plus-tests es s u t .from i j (plus-tests fs s v t .to i j h))
+
+neither : (a : Bool) (bs : List Bool) → orAll (a ∷ bs) ≡ false → (a ≡ false) × (orAll bs ≡ false)
+unfolding orAll
+neither true bs e = absurd (false≢true (sym e))
+neither false bs e = (refl, e)
+
+-- The conditions of a link, with program order as a parameter.
+module _ (r : Recording ℕ) (po : Rel) where
+  unfoldable pub fromReadBy : ℕ → ℕ → Bool
+  fromReadBy a b = read r a && po a b
+
+  unfoldable pub linkLegalBy : ℕ → ℕ → ℕ → ℕ → Bool
+  linkLegalBy k t a b =
+      getD
+      (false ∷ rfLegal r a b ∷ coLegal r a b ∷ rmwLegal r a b
+      ∷ (fromReadBy a b && write r b)
+      ∷ (fromReadBy a b && access r b)
+      ∷ fromReadBy a b
+      ∷ (fromReadBy a b && (isSource k && exclusiveRead r b))
+      ∷ [])
+      t false
+
+linkLegal-by : (r : Recording ℕ) (k t a b : ℕ) → linkLegal r k t a b ≡ linkLegalBy r (base nodes r .po) k t a b
+unfolding linkLegal dataLegal addrLegal ctrlLegal casdepLegal fromRead linkLegalBy fromReadBy
+linkLegal-by r k t a b = refl
+
+module _ (f : List ℕ) where
+  -- The records.
+  abbrev records : List ℕ
+  records = eventList (events f) 0
+
+  -- Cause 8.
+  unfoldable pub twoSources : ℕ → ℕ → Bool
+  twoSources m n = (eqb (linkByte f m 1) 1 && eqb (linkByte f n 1) 1) && not (eqb (linkByte f m 2) (linkByte f n 2))
+
+  unfoldable pub oneSourceBy : ℕ → Bool
+  oneSourceBy b = not (some (linksInto f b) (λ m. some (linksInto f b) (twoSources m)))
+
+  unfoldable pub linkSoundBy : ℕ → ℕ → Bool
+  linkSoundBy b m = linkLegalBy (decode f) (base (eventList (events f) 0) (decode f) .po) (kind f) (linkByte f m 1) (linkByte f m 2) b && eqb (linkByte f m 3) 0
+
+  unfoldable pub linksSoundBy : ℕ → Bool
+  linksSoundBy b = allOf (linksInto f b) (linkSoundBy b) && oneSourceBy b
+
+  -- Cause 9: a ring of co passes records alone.
+  unfoldable pub coBetween : Rel
+  coBetween a b = isRecorded f a && coStep (decode f) a b
+
+  unfoldable pub coRingBy : Bool
+  coRingBy = some (eventList (events f) 0) (diagonal (plus (eventList (events f) 0) coBetween))
+
+  -- The causes. To unfold it is to unfold all that it computes with.
+  unfoldable pub causes : List Bool
+  unfolding eventList fromReadBy linkLegalBy twoSources oneSourceBy linkSoundBy linksSoundBy coBetween coRingBy union either diagonal some image chain through plus inverse optional below ofClass flagged access event sameLocation coStep base isSource kindKnown mostEvents mostLinks each among follow met fresh onceEach nextOf startOf isRecorded isInitial recordOr fieldOr decode readLegal writeLegal fenceMode fenceLegal legal eventLegal headerOver sameLocations rfLegal coLegal rmwLegal allOf pairedAt tooShort kindUnknown overLimit wrongLength badEvent badThreads badChains unpaired
+  causes =
+      tooShort f ∷ kindUnknown f ∷ overLimit f ∷ wrongLength f ∷ badEvent f ∷ badThreads f ∷ badChains f ∷ not (each (events f) linksSoundBy) ∷ coRingBy ∷ unpaired f
+      ∷ []
+
+  -- A file that passes.
+  recorded-in : (e : ℕ) → T (decode f .recorded e) → List·Memᴰ e records
+  unfolding decode
+  recorded-in e h = (let w = recorded-bounds f e (is-true (isRecorded f e) h) in recorded-listed (events f) 0 e (w .0) (w .1))
+
+  module _ (few : events f < 64) where
+    recorded-node : (e : ℕ) → T (decode f .recorded e) → List·Memᴰ e nodes
+    unfolding decode
+    recorded-node e h = (let w = recorded-bounds f e (is-true (isRecorded f e) h) in below-listed 64 e (omega (arith, w .1)))
+
+    next-from : (a b : ℕ) → T (decode f .next a b) → T (decode f .recorded a)
+    unfolding decode
+    next-from a b h =
+        holds (isRecorded f a) (and-left (isRecorded f a) (isRecorded f b) (and-left (isRecorded f a && isRecorded f b) _ (is-true (decode f .next a b) h)))
+
+    next-to : (a b : ℕ) → T (decode f .next a b) → T (decode f .recorded b)
+    unfolding decode
+    next-to a b h =
+        holds (isRecorded f b) (and-right (isRecorded f a) (isRecorded f b) (and-left (isRecorded f a && isRecorded f b) _ (is-true (decode f .next a b) h)))
+
+    po-same : base nodes (decode f) .po ≡ base records (decode f) .po
+    unfolding base
+    po-same =
+        ap (either (λ a b. decode f .initial a && decode f .recorded b))
+        (plus-relist nodes records (decode f .recorded) (decode f .next) recorded-node recorded-in next-from next-to)
+
+    link-sound : (b m : ℕ) → linkSound f b m ≡ linkSoundBy b m
+    unfolding linkSound linkSoundBy
+    link-sound b m =
+        let t = linkByte f m 1 in
+        let a = linkByte f m 2 in
+        ap (λ (x : Bool). x && eqb (linkByte f m 3) 0)
+        (linkLegal-by (decode f) (kind f) t a b ∙ ap (λ (po : Rel). linkLegalBy (decode f) po (kind f) t a b) po-same)
+
+    -- A link of type 1 is a record of the chain.
+    link-in : (a b : ℕ) → decode f .link 1 a b ≡ true → (m : ℕ) × Mem m (linksInto f b) × (linkByte f m 1 ≡ 1) × (linkByte f m 2 ≡ a)
+    unfolding decode
+    link-in a b p =
+        let here : Set = λ m. eqb (linkByte f m 1) 1 && eqb (linkByte f m 2) a in
+        let w = some-sound (linksInto f b) here (and-right (isRecorded f b) (some (linksInto f b) here) p) in
+        let m = w .0 in (
+          m,
+          w .1,
+          eqb-true (linkByte f m 1) 1 (and-left (eqb (linkByte f m 1) 1) (eqb (linkByte f m 2) a) (w .2)),
+          eqb-true (linkByte f m 2) a (and-right (eqb (linkByte f m 1) 1) (eqb (linkByte f m 2) a) (w .2)),
+        )
+
+    one-source : (b : ℕ) → oneSourceBy b ≡ true → oneSource (decode f) b ≡ true
+    unfolding oneSource oneSourceBy twoSources
+    one-source b q =
+        ap not (is-false (some nodes (λ a. some nodes (λ c. (decode f .link 1 a b && decode f .link 1 c b) && not (eqb a c)))) (λ p.
+        let x = some-sound nodes (λ a. some nodes (λ c. (decode f .link 1 a b && decode f .link 1 c b) && not (eqb a c))) p in
+        let y = some-sound nodes (λ c. (decode f .link 1 (x .0) b && decode f .link 1 c b) && not (eqb (x .0) c)) (x .2) in
+        two (x .0) (y .0) (y .2)))
+      where
+        two : (a c : ℕ) → (decode f .link 1 a b && decode f .link 1 c b) && not (eqb a c) ≡ true → ⊥
+        two a c p =
+            let ms = linksInto f b in
+            let both = and-left (decode f .link 1 a b && decode f .link 1 c b) (not (eqb a c)) p in
+            let (m, i, t, s) = link-in a b (and-left (decode f .link 1 a b) (decode f .link 1 c b) both) in
+            let (n, j, u, v) = link-in c b (and-right (decode f .link 1 a b) (decode f .link 1 c b) both) in
+            let found : twoSources m n ≡ true = rw (t, u, s, v) (and-right (decode f .link 1 a b && decode f .link 1 c b) (not (eqb a c)) p) in
+            false≢true (sym (ap not (some-complete ms (λ k. some ms (twoSources k)) m i (some-complete ms (twoSources m) n j found))) ∙ q)
+
+    links-sound : each (events f) linksSoundBy ≡ true → badLink f ≡ false
+    unfolding badLink linksSoundAt linksSoundBy
+    links-sound q = ap not (each-all (events f) (linksSoundAt f) (λ b h g.
+        let at = each-at (events f) linksSoundBy q b h g in
+        and-both (allOf (linksInto f b) (linkSound f b)) (oneSource (decode f) b)
+        (ap (allOf (linksInto f b)) (fun-ext (link-sound b)) ∙ and-left (allOf (linksInto f b) (linkSoundBy b)) (oneSourceBy b) at)
+        (one-source b (and-right (allOf (linksInto f b) (linkSoundBy b)) (oneSourceBy b) at))))
+
+  co-target : (a b : ℕ) → T (coStep (decode f) a b) → isRecorded f b ≡ true
+  unfolding decode
+  co-target a b h = go (step-cases (decode f) a b h)
+    where
+      go : CoStep (decode f) a b → isRecorded f b ≡ true
+      go (linked l) = and-left (isRecorded f b) _ (is-true (decode f .link 2 a b) l)
+      go (initially i c x l) = is-true (isRecorded f b) c
+
+  co-last : {a b : ℕ} → Plus (λ x y. T (coStep (decode f) x y)) a b → isRecorded f b ≡ true
+  co-last (one {a = a} {b = b} h) = co-target a b h
+  co-last (cons h p) = co-last p
+
+  between : {a b : ℕ} → isRecorded f a ≡ true → Plus (λ x y. T (coStep (decode f) x y)) a b → Plus (λ x y. T (coBetween x y)) a b
+  unfolding coBetween
+  between q (one {a = a} {b = b} h) = one (holds _ (and-both (isRecorded f a) (coStep (decode f) a b) q (is-true _ h)))
+  between q (cons {a = a} {b = b} h p) = cons (holds _ (and-both (isRecorded f a) (coStep (decode f) a b) q (is-true _ h))) (between (co-target a b h) p)
+
+  between-tests : Tests (decode f .recorded) coBetween (λ a b. T (coBetween a b))
+  unfolding coBetween decode
+  between-tests = record {
+    to = λ i j h. h;
+    from = λ i j h. h;
+    source = λ i j h. holds (isRecorded f i) (and-left (isRecorded f i) (coStep (decode f) i j) (is-true _ h));
+    target = λ i j h. holds (isRecorded f j) (co-target i j (holds _ (and-right (isRecorded f i) (coStep (decode f) i j) (is-true _ h))));
+  }
+
+  co-acyclic : coRingBy ≡ false → coRing f ≡ false
+  unfolding coRing coRingBy base diagonal decode
+  co-acyclic q = is-false (coRing f) (λ p.
+      let w = some-witness nodes (diagonal (base nodes (decode f) .co)) (holds _ p) in
+      let x = w .0 in
+      let ring = plus-steps nodes (coStep (decode f)) x x (w .1) in
+      let r = co-last ring in
+      let found = plus-tests records (decode f .recorded) recorded-in between-tests .from x x (between r ring) in
+      false≢true (sym q ∙ is-true _ (some-intro records (diagonal (plus records coBetween)) (recorded-in x (holds _ r)) found)))
+
+  few-events : overLimit f ≡ false → events f < 64
+  unfolding overLimit headerOver mostEvents
+  few-events p = omega (arith, ltb-false (mostEvents (kind f)) (events f) (left _ _ p), most (isSource (kind f)))
+    where
+      left : (a b : Bool) → a || b ≡ false → a ≡ false
+      left true b e = e
+      left false b e = refl
+
+      most : (b : Bool) → elim b [ true ↦ 32 | false ↦ 48 ] ≤ 48
+      most true = omega arith
+      most false = omega arith
+
+  pub passes-loads : orAll causes ≡ false → refusal f ≡ 0
+  unfolding causes
+  passes-loads p0 =
+      let (c1, p1) = neither (tooShort f) _ p0 in
+      let (c2, p2) = neither (kindUnknown f) _ p1 in
+      let (c3, p3) = neither (overLimit f) _ p2 in
+      let (c4, p4) = neither (wrongLength f) _ p3 in
+      let (c5, p5) = neither (badEvent f) _ p4 in
+      let (c6, p6) = neither (badThreads f) _ p5 in
+      let (c7, p7) = neither (badChains f) _ p6 in
+      let (c8, p8) = neither (not (each (events f) linksSoundBy)) _ p7 in
+      let (c9, p9) = neither coRingBy _ p8 in
+      let (c10, p10) = neither (unpaired f) _ p9 in
+      accepts f (record {
+        cause1 = c1;
+        cause2 = c2;
+        cause3 = c3;
+        cause4 = c4;
+        cause5 = c5;
+        cause6 = c6;
+        cause7 = c7;
+        cause8 = links-sound (few-events c3) (not-false _ c8);
+        cause9 = co-acyclic c9;
+        cause10 = c10;
+      })

@@ -1,0 +1,2 @@
+-- The litmus table and the statement about it.
+pub mod Table

@@ -1,0 +1,2 @@
+-- The statement of demand 3.
+pub mod Soundness

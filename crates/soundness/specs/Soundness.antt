@@ -1,0 +1,33 @@
+-- Demand 3: "No source recording that loads, whatever its events and links, is broken under IMM while its translation is allowed under ARMv8.
+-- Whenever a source recording loads, each of its translations loads too. Loading, translation and verdicts are those that the papers define."
+-- The statement, over bytes and with the definitions that the calls' contracts cite. `proofs/Soundness.antt` proves it. Assumes nothing.
+use mathlib.Core.Path.{_≡_}
+use mathlib.Core.List.{List}
+use Prim.Native.Nat.{ℕ}
+use Rattle.relation.specs.Rel.{nodes}
+use Rattle.models.specs.Graph.{base}
+use Rattle.models.specs.Rules.{IMM, ARMv8, verdict}
+use Rattle.recording.specs.Layout.{kind}
+use Rattle.recording.specs.Decode.{decode}
+use Rattle.recording.specs.Causes.{refusal}
+use Rattle.translation.specs.Answer.{translation}
+
+-- The file loads, and is of that kind: 1 source, 2 chip.
+pub record LoadsAs (k : ℕ) (f : List ℕ) : Type 0 where
+  pub loads : refusal f ≡ 0
+  pub kind-is : kind f ≡ k
+
+-- The verdict on the recording that a file holds: 0 allowed, else the number of the first broken rule.
+unfoldable pub immVerdict : List ℕ → ℕ
+immVerdict f = verdict nodes (base nodes (decode f)) IMM
+
+unfoldable pub armv8Verdict : List ℕ → ℕ
+armv8Verdict f = verdict nodes (base nodes (decode f)) ARMv8
+
+-- Of a source file that loads: its translation loads as a chip file, and where that is allowed so is the source.
+pub record Sound (f : List ℕ) : Type 0 where
+  pub translation-loads : LoadsAs 2 (translation f)
+  pub allowed-back : armv8Verdict (translation f) ≡ 0 → immVerdict f ≡ 0
+
+abbrev pub Soundness : Type 0
+Soundness = (f : List ℕ) → LoadsAs 1 f → Sound f

@@ -1,0 +1,132 @@
+-- The table of classes, modes and flags: what a legal event of a source recording says, and that its translation is legal in a chip
+-- recording. Assumes nothing.
+use mathlib.Core.Path.{_≡_, refl, sym, ap, _∙_}
+use mathlib.Core.Bool.{Bool, true, false, _&&_, _||_, false≢true}
+use mathlib.Core.List.{List}
+use mathlib.Core.Logic.{_⊎_, inl, inr}
+use Prim.Native.Nat.{ℕ, zero, suc, _+_, _*_, _<_, _≤_}
+use native.Mathlib.Omega.{arith}
+use native.Mathlib.Decide.{ℕ-discrete, decLe}
+use borrow.Author.Tests.{leb-true, eqb-true}
+use lib.Dec.{eqb, leb, ltb}
+use Rattle.relation.proofs.Meaning.{and-left, and-right, and-both, or-either}
+use Rattle.recording.specs.Layout.{isSource, kind, locations}
+use Rattle.recording.specs.Decode.{decode}
+use Rattle.recording.specs.Causes.{readLegal, writeLegal, fenceMode, fenceLegal, legal, eventLegal}
+use Rattle.translation.specs.Contents.{Contents}
+use Rattle.translation.specs.Translate.{strong, newEvents, keptOr, newMode, newFlag, translated}
+use Rattle.recording.proofs.Truth.{is-false}
+use Rattle.translation.proofs.TranslateLaws as law
+use Rattle.translation.proofs.TranslateLaws.{Flagged, flagged-is}
+use Rattle.translation.proofs.Says.{Says}
+
+-- What the table asks of event e, said of contents.
+unfoldable pub legalAt : ℕ → ℕ → Contents → ℕ → Bool
+legalAt k L c e = legal k L (c .class e) (c .mode e) (c .flag e) (c .location e) (c .low e + 256 * c .high e)
+
+pub legal-says : (f : List ℕ) (c : Contents) → Says (decode f) c → (e : ℕ) → 1 ≤ e → e ≤ c .events → eventLegal f e ≡ legalAt (kind f) (locations f) c e
+unfolding eventLegal legalAt
+legal-says f c q e h g = rw (q .class e h g, q .mode e h g, q .flag e h g, q .location e h g, q .value e h g)
+
+module _ (L class mode flag location value : ℕ) where
+  legal-write : legal 1 L 2 mode flag location value ≡ true → ((eqb mode 0 || eqb mode 2) && ltb location L ≡ true) × ((flag ≡ 0) ⊎ (flag ≡ 1))
+  unfolding legal writeLegal isSource
+  legal-write p =
+      let m = eqb mode 0 || eqb mode 2 in
+      let f = eqb flag 0 || (eqb flag 1 && true) in
+      let w = and-left (m && f) (ltb location L) p in (
+        and-both m (ltb location L) (and-left m f w) (and-right (m && f) (ltb location L) p),
+        elim (or-either (eqb flag 0) (eqb flag 1 && true) (and-right m f w)) [
+          | inl x ↦ inl (eqb-true flag 0 x)
+          | inr x ↦ inr (eqb-true flag 1 (and-left (eqb flag 1) true x))
+        ],
+      )
+
+  legal-fence : legal 1 L 3 mode flag location value ≡ true → (1 ≤ mode) × (mode ≤ 4) × (flag ≡ 0) × (eqb location 0 && eqb value 0 ≡ true)
+  unfolding legal fenceLegal fenceMode isSource
+  legal-fence p =
+      let m = leb 1 mode && leb mode 4 in
+      let z = eqb location 0 && eqb value 0 in
+      let w = and-left (m && eqb flag 0) z p in
+      let b = and-left m (eqb flag 0) w in
+      (leb-true 1 mode (and-left (leb 1 mode) (leb mode 4) b), leb-true mode 4 (and-right (leb 1 mode) (leb mode 4) b), eqb-true flag 0 (and-right m (eqb flag 0) w), and-right (m && eqb flag 0) z p)
+
+  -- In a chip recording.
+  chip-write : (eqb mode 0 || eqb mode 2) && ltb location L ≡ true → legal 2 L 2 mode 0 location value ≡ true
+  unfolding legal writeLegal isSource
+  chip-write p =
+      let m = eqb mode 0 || eqb mode 2 in
+      and-both (m && true) (ltb location L) (and-both m true (and-left m (ltb location L) p) refl) (and-right m (ltb location L) p)
+
+  chip-fence : (mode ≡ 5) ⊎ (mode ≡ 6) → flag ≡ 0 → eqb location 0 && eqb value 0 ≡ true → legal 2 L 3 mode flag location value ≡ true
+  unfolding legal fenceLegal fenceMode isSource
+  chip-fence (inl m) e z = rw (m, e) z
+  chip-fence (inr m) e z = rw (m, e) z
+
+  -- An event of the source: its class is 1, 2 or 3.
+  class-legal : legal 1 L class mode flag location value ≡ true → (class ≡ 1) ⊎ ((class ≡ 2) ⊎ (class ≡ 3))
+  unfolding legal
+  class-legal = go class
+    where
+      go : (n : ℕ) → legal 1 L n mode flag location value ≡ true → (n ≡ 1) ⊎ ((n ≡ 2) ⊎ (n ≡ 3))
+      go zero p = absurd (false≢true p)
+      go (suc zero) p = inl refl
+      go (suc (suc zero)) p = inr (inl refl)
+      go (suc (suc (suc zero))) p = inr (inr refl)
+      go (suc (suc (suc (suc n)))) p = absurd (false≢true p)
+
+  read-any : (k : ℕ) → legal 1 L 1 mode flag location value ≡ true → legal k L 1 mode flag location value ≡ true
+  unfolding legal
+  read-any k p = p
+
+-- An event of the source, and its translation.
+module _ (L : ℕ) (s : Contents) (e : ℕ) (ok : legalAt 1 L s e ≡ true) where
+  abbrev value : ℕ
+  value = s .low e + 256 * s .high e
+
+  of-class : (k : ℕ) → s .class e ≡ k → legal 1 L k (s .mode e) (s .flag e) (s .location e) value ≡ true
+  unfolding legalAt
+  of-class k c = ap (λ (x : ℕ). legal 1 L x (s .mode e) (s .flag e) (s .location e) value) (sym c) ∙ ok
+
+  pub fence-modes : s .class e ≡ 3 → (1 ≤ s .mode e) × (s .mode e ≤ 4)
+  fence-modes c = (let w = legal-fence L 3 (s .mode e) (s .flag e) (s .location e) value (of-class 3 c) in (w .0, w .1))
+
+  pub write-flags : s .class e ≡ 2 → (s .flag e ≡ 0) ⊎ (s .flag e ≡ 1)
+  write-flags c = legal-write L 2 (s .mode e) (s .flag e) (s .location e) value (of-class 2 c) .1
+
+  not-strong : (k : ℕ) → s .class e ≡ k → (k ≡ 2 → ⊥) → newFlag s e ≡ s .flag e
+  not-strong k c d = law.flag-kept s e (is-false (strong s e) (λ w. d (sym c ∙ flagged-is s 2 e w .class)))
+
+  new-flag-zero : s .class e ≡ 2 → 1 ≤ e → e ≤ s .events → newFlag s e ≡ 0
+  new-flag-zero c h g =
+      elim (write-flags c) [
+        | inr x ↦ law.flag-strong s e (law.flagged-intro s 2 e (record { low = h; high = g; class = c; flag = x }))
+        | inl x ↦ law.flag-kept s e (is-false (strong s e) (λ w. omega (arith, flagged-is s 2 e w .flag))) ∙ x
+      ]
+
+  new-fence : s .class e ≡ 3 → (newMode s e ≡ 5) ⊎ (newMode s e ≡ 6)
+  new-fence c = elim (ℕ-discrete (s .mode e) 1) [ yes x ↦ inl (law.mode-acquire s e c x) | no x ↦ inr (law.mode-other s e c x) ]
+
+  translated-legal : 1 ≤ e → e ≤ s .events → legal 2 L (s .class e) (newMode s e) (newFlag s e) (s .location e) value ≡ true
+  unfolding legalAt
+  translated-legal h g =
+      elim (class-legal L (s .class e) (s .mode e) (s .flag e) (s .location e) value ok) [
+        | inl c ↦ rw (c, law.mode-access s e (λ d. omega (arith, c)), not-strong 1 c (λ d. omega arith)) (read-any L 1 (s .mode e) (s .flag e) (s .location e) value 2 (of-class 1 c))
+        | inr w ↦ elim w [
+          | inl c ↦ rw (c, law.mode-access s e (λ d. omega (arith, c)), new-flag-zero c h g)
+              (chip-write L 2 (s .mode e) 0 (s .location e) value (legal-write L 2 (s .mode e) (s .flag e) (s .location e) value (of-class 2 c) .0))
+          | inr c ↦ (let w = legal-fence L 3 (s .mode e) (s .flag e) (s .location e) value (of-class 3 c) in
+              rw c (chip-fence L 3 (newMode s e) (newFlag s e) (s .location e) value (new-fence c) (not-strong 3 c (λ d. omega arith) ∙ w .2) (w .3)))
+        ]
+      ]
+
+-- Every event of the translation is legal.
+pub legal-new : (L : ℕ) (s : Contents) → ((e : ℕ) → 1 ≤ e → e ≤ s .events → legalAt 1 L s e ≡ true) → (e : ℕ) → 1 ≤ e → legalAt 2 L (translated s) e ≡ true
+unfolding legalAt translated legal fenceLegal fenceMode isSource
+legal-new L s ok e h =
+    elim (decLe e (s .events)) [
+      | yes g ↦ rw (law.kept s (s .class) 3 e g, law.kept s (newMode s) 5 e g, law.kept s (newFlag s) 0 e g, law.kept s (s .location) 0 e g, law.kept s (s .low) 0 e g, law.kept s (s .high) 0 e g)
+          (translated-legal L s e (ok e h g) h g)
+      | no n ↦ (let g : s .events < e = omega (arith, n) in
+          rw (law.made s (s .class) 3 e g, law.made s (newMode s) 5 e g, law.made s (newFlag s) 0 e g, law.made s (s .location) 0 e g, law.made s (s .low) 0 e g, law.made s (s .high) 0 e g) refl)
+    ]

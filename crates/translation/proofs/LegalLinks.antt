@@ -1,0 +1,120 @@
+-- A recording that has what loading ensures passes the tests of its links: their conditions, one source per read, no ring of co. Assumes nothing.
+use mathlib.Core.Path.{_≡_, refl, sym, ap, subst, _∙_}
+use mathlib.Core.Bool.{Bool, true, false, not, _&&_, _||_, false≢true}
+use mathlib.Core.List.{List, [], _∷_}
+use mathlib.Core.Logic.{_⊎_, inl, inr}
+use Prim.Native.Nat.{ℕ, zero, suc, _<_, _≤_}
+use native.Mathlib.Omega.{arith}
+use native.Mathlib.Decide.{ℕ-discrete}
+use borrow.Author.Tests.{eq-eqb, ne-eqb, eqb-true}
+use lib.Dec.{T, eqb}
+use Rattle.relation.specs.Rel.{Set, some, diagonal, nodes, below}
+use Rattle.relation.proofs.Meaning.{and-left, and-right, and-both, some-sound}
+use Rattle.models.specs.Recording.{Recording, event, ofClass, flagged, access, coStep}
+use Rattle.models.specs.Steps.{Plus, one, cons}
+use Rattle.models.specs.Graph.{graph, base, Within}
+use Rattle.models.specs.Loads.{Loads}
+use Rattle.models.proofs.Tests.{plus-steps, below-listed}
+use Rattle.models.proofs.Sets.{recorded-event, initial-event, event-cases, class-event, flag-class, access-event, step-intro, linked}
+use Rattle.models.proofs.Agree.{agrees}
+use Rattle.recording.specs.Causes.{sameLocations, rfLegal, coLegal, rmwLegal, fromRead, dataLegal, addrLegal, ctrlLegal, linkLegal, oneSource}
+use Rattle.recording.proofs.Truth.{is-true, holds, is-false}
+
+-- Links have types 1 to 6, and rf joins equal values.
+module _ (r : Recording ℕ) (l : Loads r) (small : (e : ℕ) → T (event r e) → e < 64)
+    (types : (t a b : ℕ) → T (r .link t a b) → (1 ≤ t) × (t ≤ 6)) (values : (a b : ℕ) → T (r .link 1 a b) → r .value a ≡ r .value b) where
+  po-events : (a b : ℕ) → graph r .po a b → T (event r b)
+  po-events a b (inl h) = recorded-event r b (h .1)
+  po-events a b (inr h) = go h
+    where
+      go : {x : ℕ} → Plus (λ u v. T (r .next u v)) x b → T (event r b)
+      go (one {a = u} k) = recorded-event r b (l .next-target u b k)
+      go (cons k m) = go m
+
+  -- Links join events.
+  ends : (t a b : ℕ) → T (r .link t a b) → (1 ≤ t) × (t ≤ 6) → T (event r a) × T (event r b)
+  ends zero a b h g = absurd (omega (arith, g))
+  ends (suc zero) a b h g = (let w = l .rf a b h in (class-event r 2 a (w .0), class-event r 1 b (w .1)))
+  ends (suc (suc zero)) a b h g = (let w = l .co a b h in (class-event r 2 a (w .0), class-event r 2 b (w .1)))
+  ends (suc (suc (suc zero))) a b h g = (let w = l .rmw a b h in (class-event r 1 a (flag-class r 1 a (w .0)), class-event r 2 b (w .1)))
+  ends (suc (suc (suc (suc zero)))) a b h g = (let w = l .«data» a b h in (class-event r 1 a (w .0), class-event r 2 b (w .1)))
+  ends (suc (suc (suc (suc (suc zero))))) a b h g = (let w = l .addr a b h in (class-event r 1 a (w .0), access-event r b (w .1)))
+  ends (suc (suc (suc (suc (suc (suc zero)))))) a b h g = (let w = l .ctrl a b h in (class-event r 1 a (w .0), po-events a b (w .1)))
+  ends (suc (suc (suc (suc (suc (suc (suc t))))))) a b h g = absurd (omega (arith, g))
+
+  pub within : Within nodes r
+  within = record {
+    listed = λ e h. below-listed 64 e (small e h);
+    next-source = λ a b h. recorded-event r a (l .next-source a b h);
+    next-target = λ a b h. recorded-event r b (l .next-target a b h);
+    link-source = λ t a b h. ends t a b h (types t a b h) .0;
+    link-target = λ t a b h. ends t a b h (types t a b h) .1;
+  }
+
+  -- Each link meets its conditions.
+  same-place : (a b : ℕ) → r .location a ≡ r .location b → sameLocations r a b ≡ true
+  unfolding sameLocations
+  same-place a b e = eq-eqb (r .location a) (r .location b) e
+
+  from-read : (a b : ℕ) → T (ofClass r 1 a) → graph r .po a b → fromRead r a b ≡ true
+  unfolding fromRead
+  from-read a b h p = and-both (ofClass r 1 a) (base nodes r .po a b) (is-true _ h) (is-true _ (agrees nodes r within .po .from a b p))
+
+  rf-legal : (a b : ℕ) → T (r .link 1 a b) → rfLegal r a b ≡ true
+  unfolding rfLegal
+  rf-legal a b h =
+      let w = l .rf a b h in
+      and-both (ofClass r 2 a && ofClass r 1 b) (sameLocations r a b && eqb (r .value a) (r .value b)) (and-both (ofClass r 2 a) (ofClass r 1 b) (is-true _ (w .0)) (is-true _ (w .1)))
+      (and-both (sameLocations r a b) (eqb (r .value a) (r .value b)) (same-place a b (w .2)) (eq-eqb (r .value a) (r .value b) (values a b h)))
+
+  co-legal : (a b : ℕ) → T (r .link 2 a b) → coLegal r a b ≡ true
+  unfolding coLegal
+  co-legal a b h =
+      let w = l .co a b h in
+      let other = ne-eqb a b (λ e. l .co-acyclic a (one (step-intro r a a (linked (subst (λ x. T (r .link 2 a x)) (sym e) h))))) in
+      and-both (ofClass r 2 a && ofClass r 2 b) (r .recorded b && (not (eqb a b) && sameLocations r a b)) (and-both (ofClass r 2 a) (ofClass r 2 b) (is-true _ (w .0)) (is-true _ (w .1)))
+      (and-both (r .recorded b) (not (eqb a b) && sameLocations r a b) (is-true _ (w .2)) (and-both (not (eqb a b)) (sameLocations r a b) (ap not other) (same-place a b (w .3))))
+
+  rmw-legal : (a b : ℕ) → T (r .link 3 a b) → rmwLegal r a b ≡ true
+  unfolding rmwLegal
+  rmw-legal a b h =
+      let w = l .rmw a b h in
+      and-both (flagged r 1 a && ofClass r 2 b) (r .next a b && sameLocations r a b) (and-both (flagged r 1 a) (ofClass r 2 b) (is-true _ (w .0)) (is-true _ (w .1)))
+      (and-both (r .next a b) (sameLocations r a b) (is-true _ (w .2)) (same-place a b (w .3)))
+
+  legal-by : (k t a b : ℕ) → T (r .link t a b) → (1 ≤ t) × (t ≤ 6) → linkLegal r k t a b ≡ true
+  unfolding linkLegal dataLegal addrLegal ctrlLegal
+  legal-by k zero a b h g = absurd (omega (arith, g))
+  legal-by k (suc zero) a b h g = rf-legal a b h
+  legal-by k (suc (suc zero)) a b h g = co-legal a b h
+  legal-by k (suc (suc (suc zero))) a b h g = rmw-legal a b h
+  legal-by k (suc (suc (suc (suc zero)))) a b h g = (let w = l .«data» a b h in and-both (fromRead r a b) (ofClass r 2 b) (from-read a b (w .0) (w .2)) (is-true _ (w .1)))
+  legal-by k (suc (suc (suc (suc (suc zero))))) a b h g = (let w = l .addr a b h in and-both (fromRead r a b) (access r b) (from-read a b (w .0) (w .2)) (is-true _ (w .1)))
+  legal-by k (suc (suc (suc (suc (suc (suc zero)))))) a b h g = (let w = l .ctrl a b h in from-read a b (w .0) (w .1))
+  legal-by k (suc (suc (suc (suc (suc (suc (suc t))))))) a b h g = absurd (omega (arith, g))
+
+  pub legal-link : (k t a b : ℕ) → r .link t a b ≡ true → linkLegal r k t a b ≡ true
+  legal-link k t a b e = (let h = holds (r .link t a b) e in legal-by k t a b h (types t a b h))
+
+  -- One source per read.
+  pub one-source : (b : ℕ) → oneSource r b ≡ true
+  unfolding oneSource
+  one-source b =
+      ap not (is-false (some nodes (λ a. some nodes (λ c. (r .link 1 a b && r .link 1 c b) && not (eqb a c)))) (λ p.
+      let x = some-sound nodes (λ a. some nodes (λ c. (r .link 1 a b && r .link 1 c b) && not (eqb a c))) p in
+      let y = some-sound nodes (λ c. (r .link 1 (x .0) b && r .link 1 c b) && not (eqb (x .0) c)) (x .2) in
+      two (x .0) (y .0) (y .2)))
+    where
+      two : (a c : ℕ) → (r .link 1 a b && r .link 1 c b) && not (eqb a c) ≡ true → ⊥
+      two a c p =
+          let both = and-left (r .link 1 a b && r .link 1 c b) (not (eqb a c)) p in
+          let same = l .rf-once a c b (holds _ (and-left (r .link 1 a b) (r .link 1 c b) both)) (holds _ (and-right (r .link 1 a b) (r .link 1 c b) both)) in
+          false≢true (sym (ap not (eq-eqb a c same)) ∙ and-right (r .link 1 a b && r .link 1 c b) (not (eqb a c)) p)
+
+  -- co does not lead back to its start.
+  pub no-co-ring : some nodes (diagonal (base nodes r .co)) ≡ false
+  unfolding base diagonal
+  no-co-ring =
+      is-false (some nodes (diagonal (base nodes r .co))) (λ p.
+      let w = some-sound nodes (diagonal (base nodes r .co)) p in
+      l .co-acyclic (w .0) (plus-steps nodes (coStep r) (w .0) (w .0) (holds _ (w .2))))

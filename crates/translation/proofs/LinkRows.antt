@@ -1,0 +1,231 @@
+-- Laws of the functions over links: the rows of their sources, and how many there are. Assumes nothing.
+use mathlib.Core.Path.{_≡_, refl, sym, ap, ap₂, subst, _∙_, fun-ext}
+use mathlib.Core.Bool.{Bool, true, false, _&&_, _||_, false≢true}
+use mathlib.Core.List.{List, []}
+use mathlib.Core.Logic.{_⊎_, inl, inr}
+use Prim.Native.Nat.{ℕ, zero, suc, _+_, _-_, _*_, _<_, _≤_}
+use native.Mathlib.Numerals.{add-one}
+use native.Mathlib.Omega.{arith}
+use borrow.Author.Tests.{le-leb, lt-leb, ne-eqb, eq-eqb}
+use lib.Dec.{eqb, leb}
+use Rattle.relation.specs.Rel.{Set, Rel, empty, single, union, intersection, either, inverse, some, image, chain, count, nodes}
+use Rattle.relation.proofs.Meaning.{and-left, and-right}
+use Rattle.relation.proofs.SetLaws.{or-false, and-false}
+use Rattle.models.specs.Recording as recording
+use Rattle.recording.specs.Layout.{events, eventByte}
+use Rattle.recording.specs.Decode.{isRecorded, decode}
+use Rattle.recording.specs.Causes.{Readable}
+use Rattle.recording.proofs.Truth.{is-false}
+use Rattle.recording.proofs.FieldLaws.{recorded-bounds}
+use Rattle.recording.proofs.LegalLaws.{next-first}
+use Rattle.recording.proofs.Loaded.{loaded-readable}
+use Rattle.translation.specs.Contents.{Contents, contents}
+use Rattle.translation.specs.Translate.{flagged, exclusive, newEvents, after, follows, controlled, fromExclusive, fromCasdep, newLink, translated}
+use Rattle.translation.specs.Encode.{isLink, linksBefore, linksUpTo}
+use Rattle.translation.specs.Parts.{Source, NewEvent, targets, ctrlInto}
+use Rattle.translation.proofs.Counting.{count-add, count-same, count-mono}
+use Rattle.translation.proofs.TranslateLaws as law
+use Rattle.translation.proofs.TranslateLaws.{Flagged, flagged-is}
+use Rattle.translation.proofs.EncodedLinks.{link-number, none-into-zero}
+use Rattle.translation.proofs.SourceFacts.{accepted-source, sized, limits, link-target, flagged-decoded}
+use Rattle.translation.proofs.Bounds.{links-fit, most-links}
+
+-- A row of at most one number.
+row-none : (b : Bool) (x : ℕ) (s : Set) → s ≡ empty → b ≡ false → s ≡ λ j. b && eqb x j
+unfolding empty
+row-none b x s e p = e ∙ fun-ext (λ j. ap (λ (c : Bool). c && eqb x j) (sym p))
+
+row-one : (b : Bool) (x y : ℕ) (s t : Set) → s ≡ empty → t ≡ union s (single y) → b ≡ true → y ≡ x → t ≡ λ j. b && eqb x j
+unfolding empty union single
+row-one b x y s t e f p q = f ∙ fun-ext (λ j. ap (λ (r : Set). r j || eqb y j) e ∙ ap₂ (λ (c : Bool) (z : ℕ). c && eqb z j) (sym p) q)
+
+some-same : (es : List ℕ) (s t : Set) → ((e : ℕ) → s e ≡ t e) → some es s ≡ some es t
+some-same es s t f = ap (some es) (fun-ext f)
+
+module _ (f : List ℕ) (s : Source f) where
+  pub readable : Readable f
+  readable = loaded-readable f (s .loads)
+
+  -- Whether an exclusive read has both rmw and data to its write.
+  pair-is : (r w : ℕ) (p q u : Set) (x : Bool) → w ≡ eventByte f r 0 → p ≡ inverse (decode f .link 3) w → q ≡ inverse (decode f .link 4) w
+      → u ≡ intersection p q → x ≡ u r → (w ≡ contents f .next r) × (x ≡ contents f .link 3 r w && contents f .link 4 r w)
+  unfolding contents inverse intersection
+  pair-is r w p q u x e a b d k =
+      (e ∙ next-first f r, k ∙ ap (λ (t : Set). t r) d ∙ ap₂ (λ (v z : Set). v r && z r) a b)
+
+  module _ (r w : ℕ) (p q u : Set) (x : Bool) (e : w ≡ eventByte f r 0) (a : p ≡ inverse (decode f .link 3) w) (b : q ≡ inverse (decode f .link 4) w)
+      (d : u ≡ intersection p q) (k : x ≡ u r) where
+    both : x ≡ true → (contents f .link 3 r w ≡ true) × (contents f .link 4 r w ≡ true)
+    both y =
+        let c = sym (pair-is r w p q u x e a b d k .1) ∙ y in
+        (and-left (contents f .link 3 r w) (contents f .link 4 r w) c, and-right (contents f .link 3 r w) (contents f .link 4 r w) c)
+
+    pub pair-new : x ≡ true → NewEvent (contents f) w
+    unfolding contents
+    pair-new y = (let t = link-target f s 3 r w (both y .0) in record { low = t .0; high = omega (arith, t, law.more-events (contents f)) })
+
+    pub pair-controls : x ≡ true → (z : ℕ) → z ≡ after (contents f) w → z ≡ controlled (contents f) r
+    pair-controls y z g =
+        let n = pair-is r w p q u x e a b d k .0 in
+        let c = both y in
+        g ∙ ap (after (contents f)) n
+        ∙ sym (law.controlled-pair (contents f) r (ap (contents f .link 3 r) (sym n) ∙ c .0) (ap (contents f .link 4 r) (sym n) ∙ c .1))
+
+    pub read-controls : x ≡ false → (z : ℕ) → z ≡ after (contents f) r → z ≡ controlled (contents f) r
+    read-controls y z g =
+        let n = pair-is r w p q u x e a b d k in
+        g ∙ sym (law.controlled-read (contents f) r
+        (ap (λ (v : ℕ). contents f .link 3 r v && contents f .link 4 r v) (sym (n .0)) ∙ sym (n .1) ∙ y))
+
+  pub old-new : (e : ℕ) → 1 ≤ e → e ≤ events f → NewEvent (contents f) e
+  unfolding contents
+  old-new e h g = record { low = h; high = omega (arith, law.more-events (contents f)) }
+
+  pub exclusive-old : (e : ℕ) (b : Bool) → b ≡ recording.flagged (decode f) 1 e → b ≡ true → (1 ≤ e) × (e ≤ events f)
+  unfolding contents
+  exclusive-old e b p q = (let w = flagged-is (contents f) 1 e (sym (flagged-decoded f s 1 e) ∙ sym p ∙ q) in (w .low, w .high))
+
+  -- The rows of targets.
+  pub exclusive-none : (e : ℕ) (b : Bool) (r : Set) (k : Bool) → b ≡ recording.flagged (decode f) 1 e → b ≡ false → r ≡ empty → k ≡ true → r ≡ targets (contents f) k e
+  unfolding targets fromExclusive
+  exclusive-none e b r k p q n t =
+      row-none (exclusive (contents f) e) (controlled (contents f) e) r n (sym (flagged-decoded f s 1 e) ∙ sym p ∙ q) ∙ ap (λ (c : Bool). targets (contents f) c e) (sym t)
+
+  pub exclusive-some : (e x : ℕ) (b : Bool) (r u : Set) (k : Bool) → b ≡ recording.flagged (decode f) 1 e → b ≡ true → r ≡ empty → u ≡ union r (single x)
+      → x ≡ controlled (contents f) e → k ≡ true → u ≡ targets (contents f) k e
+  unfolding targets fromExclusive
+  exclusive-some e x b r u k p q n m c t =
+      row-one (exclusive (contents f) e) (controlled (contents f) e) x r u n m (sym (flagged-decoded f s 1 e) ∙ sym p ∙ q) c ∙ ap (λ (c : Bool). targets (contents f) c e) (sym t)
+
+  pub after-none : (e : ℕ) (b : Bool) (r : Set) (k : Bool) → b ≡ isRecorded f e → b ≡ false → r ≡ empty → k ≡ false → r ≡ targets (contents f) k e
+  unfolding targets follows contents isRecorded
+  after-none e b r k p q n t = row-none (isRecorded f e) (after (contents f) e) r n (sym p ∙ q) ∙ ap (λ (c : Bool). targets (contents f) c e) (sym t)
+
+  pub after-some : (e x : ℕ) (b : Bool) (r u : Set) (k : Bool) → b ≡ isRecorded f e → b ≡ true → r ≡ empty → u ≡ union r (single x)
+      → x ≡ after (contents f) e → k ≡ false → u ≡ targets (contents f) k e
+  unfolding targets follows contents isRecorded
+  after-some e x b r u k p q n m c t = row-one (isRecorded f e) (after (contents f) e) x r u n m (sym p ∙ q) c ∙ ap (λ (c : Bool). targets (contents f) c e) (sym t)
+
+  pub targets-out : (k : Bool) (e : ℕ) → 64 ≤ e → targets (contents f) k e ≡ empty
+  unfolding targets fromExclusive follows contents empty
+  targets-out true e h =
+      fun-ext (λ j. ap (λ (c : Bool). c && eqb (controlled (contents f) e) j) (is-false (exclusive (contents f) e) (λ p. omega (arith, flagged-is (contents f) 1 e p .high, limits f s .0))))
+  targets-out false e h =
+      fun-ext (λ j. ap (λ (c : Bool). (leb 1 e && c) && eqb (after (contents f) e) j) (lt-leb e (events f) (omega (arith, limits f s .0)))
+      ∙ ap (λ (c : Bool). c && eqb (after (contents f) e) j) (and-false (leb 1 e)))
+
+  -- All ctrl links.
+  casdep-links : chain nodes (decode f .link 7) (targets (contents f) false) ≡ fromCasdep (contents f)
+  unfolding fromCasdep chain image targets contents
+  casdep-links = fun-ext (λ a. fun-ext (λ b. some-same nodes _ _ (λ e. same a b e (decode f .link 7 a e) refl)))
+    where
+      same : (a b e : ℕ) (l : Bool) → decode f .link 7 a e ≡ l
+          → decode f .link 7 a e && ((leb 1 e && leb e (events f)) && follows (contents f) e b) ≡ decode f .link 7 a e && follows (contents f) e b
+      same a b e true p =
+          (let t = link-target f s 7 a e p in
+          ap₂ (λ (x y : Bool). decode f .link 7 a e && ((x && y) && follows (contents f) e b)) (le-leb 1 e (t .0)) (le-leb e (events f) (t .1)))
+      same a b e false p = ap (λ (l : Bool). l && ((leb 1 e && leb e (events f)) && follows (contents f) e b)) p ∙ sym (ap (λ (l : Bool). l && follows (contents f) e b) p)
+
+  pub ctrl-is : (kept seven steps cas ex added all r : Rel) → kept ≡ decode f .link 6 → seven ≡ decode f .link 7 → steps ≡ targets (contents f) false
+      → cas ≡ chain nodes seven steps → ex ≡ targets (contents f) true → added ≡ either ex cas → all ≡ either kept added → r ≡ inverse all → r ≡ ctrlInto (contents f)
+  unfolding ctrlInto contents targets
+  ctrl-is kept seven steps cas ex added all r a b c d e g h k =
+      k ∙ ap inverse (h ∙ ap₂ either a (g ∙ ap₂ either e (d ∙ ap₂ (chain nodes) b c ∙ casdep-links)))
+
+  -- The sources of the links of one type into one event.
+  in-range : (b : ℕ) → NewEvent (contents f) b → (leb 1 b && leb b (newEvents (contents f))) ≡ true
+  in-range b n = ap₂ _&&_ (le-leb 1 b (n .low)) (le-leb b (newEvents (contents f)) (n .high))
+
+  pub sources-ctrl : (b t : ℕ) (g : Rel) (r : Set) → NewEvent (contents f) b → t ≡ 6 → g ≡ ctrlInto (contents f) → r ≡ g b → r ≡ inverse (newLink (contents f) t) b
+  unfolding ctrlInto inverse either union newLink
+  sources-ctrl b t g r n e p q =
+      q ∙ ap (λ (h : Rel). h b) p
+      ∙ fun-ext (λ a. sym (ap (λ (k : ℕ). newLink (contents f) k a b) e
+      ∙ ap (λ (x : Bool). x && (contents f .link 6 a b || (fromExclusive (contents f) a b || fromCasdep (contents f) a b))) (in-range b n)))
+
+  pub sources-none : (b t : ℕ) (r : Set) → (t ≡ 0) ⊎ (t ≡ 7) → r ≡ empty → r ≡ inverse (newLink (contents f) t) b
+  unfolding inverse newLink empty
+  sources-none b t r w e = e ∙ fun-ext (λ a. go w a)
+    where
+      go : (t ≡ 0) ⊎ (t ≡ 7) → (a : ℕ) → false ≡ newLink (contents f) t a b
+      go (inl p) a = sym (ap (λ (k : ℕ). newLink (contents f) k a b) p ∙ and-false (leb 1 b && leb b (newEvents (contents f))))
+      go (inr p) a = sym (ap (λ (k : ℕ). newLink (contents f) k a b) p ∙ and-false (leb 1 b && leb b (newEvents (contents f))))
+
+  pub sources-kept : (b t : ℕ) (r : Set) → NewEvent (contents f) b → (t ≡ 6 → ⊥) → (t ≡ 0 → ⊥) → (t ≡ 7 → ⊥) → t < 8 → r ≡ inverse (decode f .link t) b
+      → r ≡ inverse (newLink (contents f) t) b
+  unfolding inverse newLink contents
+  sources-kept b t r n p q u h e =
+      e ∙ fun-ext (λ a. sym (
+      ap (λ (x : Bool). x && ((leb 1 t && leb t 6 && decode f .link t a b) || (eqb t 6 && (fromExclusive (contents f) a b || fromCasdep (contents f) a b)))) (in-range b n)
+      ∙ ap (λ (x : Bool). (x && leb t 6 && decode f .link t a b) || (eqb t 6 && (fromExclusive (contents f) a b || fromCasdep (contents f) a b))) (le-leb 1 t (omega (arith, q)))
+      ∙ ap (λ (x : Bool). (x && decode f .link t a b) || (eqb t 6 && (fromExclusive (contents f) a b || fromCasdep (contents f) a b))) (le-leb t 6 (omega (arith, u)))
+      ∙ ap (λ (x : Bool). decode f .link t a b || (x && (fromExclusive (contents f) a b || fromCasdep (contents f) a b))) (ne-eqb t 6 p)
+      ∙ or-false (decode f .link t a b)))
+
+-- The links before a type's row, and those of the row.
+pub count-row : (s : Contents) (b t : ℕ) (row : Set) → t < 8 → row ≡ inverse (newLink s t) b
+    → linksBefore (translated s) (512 * b + 64 * (t + 1)) ≡ linksBefore (translated s) (512 * b + 64 * t) + count 64 row
+unfolding translated inverse
+count-row s b t row h e =
+    let k = 512 * b + 64 * t in
+    let place : 512 * b + 64 * (t + 1) ≡ k + 64 = omega arith in
+    ap (λ (x : ℕ). linksBefore (translated s) x) place ∙ count-add k 64 (isLink (translated s))
+    ∙ ap (λ (x : ℕ). linksBefore (translated s) k + x)
+    (count-same 64 (λ a. isLink (translated s) (k + a)) row (λ a g. link-number (translated s) t a b h g ∙ sym (ap (λ (r : Set). r a) e)))
+
+-- The links into smaller events and, of those into b, of types below t, are counted.
+pub record LinksCounted (f : List ℕ) (g : Rel) (b t m : ℕ) : Type 0 where
+  pub source : Source f
+  pub event : NewEvent (contents f) b
+  pub grid : g ≡ ctrlInto (contents f)
+  pub same : m ≡ linksBefore (translated (contents f)) (512 * b + 64 * t)
+
+module _ (f : List ℕ) (g : Rel) (b : ℕ) where
+  pub links-start : Source f → NewEvent (contents f) b → g ≡ ctrlInto (contents f) → (n : ℕ) → n ≡ linksBefore (translated (contents f)) (512 * b) → LinksCounted f g b 0 n
+  links-start s e c n p =
+      let place : 512 * b ≡ 512 * b + 64 * 0 = omega arith in
+      record { source = s; event = e; grid = c; same = p ∙ ap (λ (x : ℕ). linksBefore (translated (contents f)) x) place }
+
+  pub links-more : (t m x : ℕ) (row : Set) → LinksCounted f g b t m → t < 8 → row ≡ inverse (newLink (contents f) t) b → x ≡ count 64 row → LinksCounted f g b (t + 1) (m + x)
+  links-more t m x row w h e p =
+      record { source = w .source; event = w .event; grid = w .grid; same = ap₂ _+_ (w .same) p ∙ sym (count-row (contents f) b t row h e) }
+
+  -- They are few.
+  pub links-few : (t m : ℕ) → LinksCounted f g b t m → t ≤ 8 → m ≤ 232
+  links-few t m w h =
+      omega (arith, w .same, count-mono (512 * b + 64 * t) (512 * suc b) (isLink (translated (contents f))) (omega arith), most-links f (w .source) b)
+
+  pub links-all : (t m : ℕ) → LinksCounted f g b t m → t ≡ 8 → (m ≡ linksUpTo (translated (contents f)) b) × (m ≤ 232)
+  links-all t m w e =
+      let place : 512 * b + 64 * t ≡ 512 * suc b = omega arith in
+      (w .same ∙ ap (λ (x : ℕ). linksBefore (translated (contents f)) x) place, links-few t m w (omega arith))
+
+-- The links into events below b are counted.
+pub record EventsCounted (f : List ℕ) (g : Rel) (n b m : ℕ) : Type 0 where
+  pub source : Source f
+  pub events : n ≡ newEvents (contents f)
+  pub grid : g ≡ ctrlInto (contents f)
+  pub low : 1 ≤ b
+  pub same : m ≡ linksBefore (translated (contents f)) (512 * b)
+
+module _ (f : List ℕ) (g : Rel) (n : ℕ) where
+  pub events-start : Source f → n ≡ newEvents (contents f) → g ≡ ctrlInto (contents f) → EventsCounted f g n 1 0
+  events-start s e c = record { source = s; events = e; grid = c; low = omega arith; same = sym (none-into-zero (translated (contents f)) (links-fit f s)) }
+
+  pub event-counted : (b m : ℕ) → EventsCounted f g n b m → b ≤ n → NewEvent (contents f) b
+  event-counted b m w h = record { low = w .low; high = omega (arith, w .events) }
+
+  pub events-more : (b m x : ℕ) → EventsCounted f g n b m → x ≡ linksUpTo (translated (contents f)) b → EventsCounted f g n (b + 1) x
+  events-more b m x w e =
+      record {
+        source = w .source;
+        events = w .events;
+        grid = w .grid;
+        low = omega arith;
+        same = e ∙ ap (λ (y : ℕ). linksBefore (translated (contents f)) (512 * y)) (sym (add-one b));
+      }
+
+  pub events-all : (b m : ℕ) → EventsCounted f g n b m → n + 1 ≡ b → (m ≡ linksUpTo (translated (contents f)) n) × (m ≤ 232)
+  events-all b m w e =
+      let same = w .same ∙ ap (λ (y : ℕ). linksBefore (translated (contents f)) (512 * y)) (sym e ∙ add-one n) in
+      (same, omega (arith, same, most-links f (w .source) n))

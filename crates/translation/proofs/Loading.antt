@@ -1,0 +1,271 @@
+-- Every translation of a source file that loads, loads, and is related to the source as `models` asks. Assumes nothing.
+use mathlib.Core.Path.{_≡_, refl, sym, ap, subst, _∙_}
+use mathlib.Core.Bool.{Bool, true, false, not, _&&_, _||_, false≢true}
+use mathlib.Core.List.{List, [], _∷_, _++_}
+use mathlib.Core.Logic.{_⊎_, inl, inr}
+use Prim.Native.Nat.{ℕ, zero, suc, _+_, _-_, _*_, _<_, _≤_}
+use native.Mathlib.Omega.{arith}
+use native.Mathlib.Decide.{ℕ-discrete, decLe}
+use borrow.Author.Tests.{eq-eqb, ne-eqb, eqb-true, le-ltb, le-leb}
+use lib.Dec.{T, eqb, leb, ltb}
+use lib.ListN.{length, getD}
+use Rattle.relation.specs.Rel.{nodes, inverse, some}
+use Rattle.relation.proofs.Meaning.{and-left, and-right, and-both, or-left}
+use Rattle.models.specs.Recording.{Recording, event, read, write, strongWrite}
+use Rattle.models.specs.Loads.{Loads}
+use Rattle.models.specs.Translated.{Translated}
+use Rattle.models.proofs.FromTranslated.{translation-loads}
+use Rattle.models.proofs.Sets.{class-event}
+use Rattle.recording.specs.Layout.{kind, events, locations, links, threads, isSource, kindKnown, mostEvents, mostLinks, fullLength, linkByte}
+use Rattle.recording.specs.Chains.{nextEvent, head, follow, chain, met, onceEach, each, linksInto}
+use Rattle.recording.specs.Decode.{decode}
+use Rattle.recording.specs.Causes.{eventLegal, legal, linkLegal, linkSound, oneSource, linksSoundAt, pairedAt, headerOver, allOf, rfLegal, sameLocations, tooShort, kindUnknown, overLimit, wrongLength, badEvent, badThreads, badChains, badLink, coRing, unpaired, refusal}
+use Rattle.recording.proofs.ChainLaws.{follow-end, follow-in, follow-over}
+use Rattle.translation.specs.Contents.{Contents, contents}
+use Rattle.translation.specs.Translate.{strong, newEvents, after, newFlag, newLink, translated}
+use Rattle.translation.specs.Encode.{linksBefore, linksUpTo, linkRecord, encode}
+use Rattle.translation.specs.Answer.{translation}
+use Rattle.translation.specs.Parts.{Source}
+use Rattle.recording.proofs.Truth.{is-true, holds, is-false, by-test}
+use Rattle.recording.proofs.Accepted.{Accepted, accepts, each-all, legal-event, threads-sound}
+use Rattle.translation.proofs.EncodeLaws.{encode-length, encode-full, encode-kind, encode-events, encode-locations, encode-links, encode-head}
+use Rattle.translation.proofs.Runs.{run, run-all}
+use Rattle.translation.proofs.EncodedLinks.{LinksFit, Numbered, numbered, link-byte, linksAt, links-at, links-within, links-into, links-sound, on-chain, encoded-link}
+use Rattle.translation.proofs.Woven.{woven-once}
+use Rattle.translation.proofs.TranslateLaws as law
+use Rattle.translation.proofs.TranslateLaws.{flagged-is, Linked, stays, exclusively, casdep, New, new-is}
+use Rattle.translation.proofs.Says.{Says, Event, initially, recorded, event-says, flagged-says, encode-says, encode-next}
+use Rattle.translation.proofs.SourceFacts as source
+use Rattle.translation.proofs.Bounds.{most-events, most-links, links-fit}
+use Rattle.translation.proofs.LegalEvents.{legalAt, legal-says, fence-modes, write-flags, legal-new}
+use Rattle.translation.proofs.LegalLinks as legality
+use Rattle.translation.proofs.Relates.{Sound, relates}
+
+-- Chains that agree within the limit meet the same.
+module _ (limit : ℕ) (next next′ : ℕ → ℕ) (same : (x : ℕ) → 1 ≤ x → x ≤ limit → next x ≡ next′ x) where
+  follow-same : (n x : ℕ) → follow limit next n x ≡ follow limit next′ n x
+  unfolding follow
+  follow-same zero x = refl
+  follow-same (suc n) x =
+      elim (ℕ-discrete x 0) [
+        | yes e ↦ ap (follow limit next (suc n)) e ∙ ap (follow limit next′ (suc n)) (sym e)
+        | no d ↦ elim (decLe x limit) [
+          | yes h ↦ follow-in limit next n x d h
+              ∙ ap (_∷_ x) (follow-same n (next x) ∙ ap (follow limit next′ n) (same x (omega (arith, d)) h)) ∙ sym (follow-in limit next′ n x d h)
+          | no h ↦ follow-over limit next n x d (omega (arith, h)) ∙ sym (follow-over limit next′ n x d (omega (arith, h)))
+        ]
+      ]
+
+  met-same : (start start′ : ℕ → ℕ) (n : ℕ) → ((j : ℕ) → j < n → start j ≡ start′ j) → met limit next start n ≡ met limit next′ start′ n
+  unfolding met
+  met-same start start′ zero e = refl
+  met-same start start′ (suc n) e =
+      ap (λ (l : List ℕ). l ++ chain limit next (start n)) (met-same start start′ n (λ j h. e j (omega arith)))
+      ∙ ap (_++_ (met limit next′ start′ n)) (follow-same (suc limit) (start n) ∙ ap (chain limit next′) (e n (omega arith)))
+
+-- rf joins equal values.
+legal-values : (r : Recording ℕ) (k a b : ℕ) → linkLegal r k 1 a b ≡ true → r .value a ≡ r .value b
+unfolding linkLegal rfLegal
+legal-values r k a b p =
+    eqb-true (r .value a) (r .value b) (and-right (sameLocations r a b) (eqb (r .value a) (r .value b)) (and-right (write r a && read r b) (sameLocations r a b && eqb (r .value a) (r .value b)) p))
+
+module _ (f : List ℕ) (s : Source f) where
+  l : Loads (decode f)
+  l = source.loads f s
+
+  abbrev old : Contents
+  old = contents f
+
+  abbrev chip : Contents
+  chip = translated (contents f)
+
+  abbrev S : Recording ℕ
+  S = decode f
+
+  abbrev C : Recording ℕ
+  C = decode (encode chip)
+
+  old-says : Says S old
+  old-says = source.says f s
+
+  chip-few : newEvents old < 56
+  chip-few = omega (arith, most-events f s)
+
+  chip-says : Says C chip
+  unfolding translated
+  chip-says = encode-says chip (links-fit f s) chip-few
+
+  old-legal : (e : ℕ) → 1 ≤ e → e ≤ old .events → legalAt 1 (locations f) old e ≡ true
+  unfolding contents
+  old-legal e h g =
+      ap (λ (k : ℕ). legalAt k (locations f) old e) (sym (s .source)) ∙ sym (legal-says f old old-says e h g) ∙ legal-event f (source.accepted-source f s) e h g
+
+  sound : Sound old
+  unfolding contents
+  sound = record {
+    few = chip-few;
+    next = source.next-within f s;
+    target = source.link-target f s;
+    rmw = λ a b e. old-says .next a b (l .rmw a b (holds (S .link 3 a b) e) .2) .4;
+    fence = λ e h g. fence-modes (locations f) old e (old-legal e h g);
+    write = λ e h g. write-flags (locations f) old e (old-legal e h g);
+  }
+
+  pub translated-relates : Translated S C
+  translated-relates = relates S C old old-says chip-says sound
+
+  chip-loads : Loads C
+  chip-loads = translation-loads S C l translated-relates
+
+  -- Causes 1 to 4: the header and the length.
+  few-links : linksUpTo chip (chip .events) ≤ 255
+  few-links = omega (arith, most-links f s (chip .events))
+
+  long-enough : tooShort (encode chip) ≡ false
+  unfolding tooShort
+  long-enough = le-ltb (length (encode chip)) 8 (omega (arith, encode-length chip))
+
+  kind-known : kindUnknown (encode chip) ≡ false
+  unfolding kindUnknown kindKnown translated
+  kind-known = ap (λ (k : ℕ). not (kindKnown k)) (encode-kind chip)
+
+  within-limits : overLimit (encode chip) ≡ false
+  unfolding overLimit headerOver mostEvents mostLinks isSource translated contents
+  within-limits =
+      rw (
+        encode-kind chip,
+        encode-events chip,
+        encode-locations chip,
+        encode-links chip,
+        le-ltb 48 (newEvents old) (most-events f s),
+        le-ltb 8 (locations f) (source.limits f s .1),
+        le-ltb 255 (linksUpTo chip (newEvents old)) few-links,
+      )
+
+  right-length : wrongLength (encode chip) ≡ false
+  unfolding wrongLength
+  right-length = ap not (eq-eqb (length (encode chip)) (fullLength (encode chip)) (encode-full chip))
+
+  -- 5: the events.
+  events-legal : badEvent (encode chip) ≡ false
+  unfolding badEvent translated contents
+  events-legal = ap not (each-all (events (encode chip)) (eventLegal (encode chip)) (λ e h g.
+      legal-says (encode chip) chip chip-says e h (omega (arith, g, encode-events chip))
+      ∙ ap (λ (k : ℕ). legalAt k (locations (encode chip)) chip e) (encode-kind chip) ∙ ap (λ (k : ℕ). legalAt 2 k chip e) (encode-locations chip)
+      ∙ legal-new (locations f) old old-legal e h))
+
+  -- 6: the threads.
+  threads-fine : badThreads (encode chip) ≡ false
+  unfolding badThreads translated contents
+  threads-fine =
+      ap (λ (n : ℕ). not (onceEach n (met n (nextEvent (encode chip)) (head (encode chip)) threads))) (encode-events chip)
+      ∙ ap (λ (m : List ℕ). not (onceEach (newEvents old) m))
+      (met-same (newEvents old) (nextEvent (encode chip)) (after old) (encode-next chip) (head (encode chip)) (head f) threads (encode-head chip))
+      ∙ ap not (woven-once (old .events) (newEvents old) (old .next) (after old) (strong old) _ (law.weaves old (source.few-events f s)) (head f) threads (threads-sound f (source.accepted-source f s)))
+
+  -- 7: the link chains.
+  chains-fine : badChains (encode chip) ≡ false
+  unfolding badChains
+  chains-fine = ap not (links-sound chip (links-fit f s))
+
+  -- 8: the links.
+  small : (e : ℕ) → T (event C e) → e < 64
+  unfolding translated contents
+  small e h = go (event-says C chip chip-says e h)
+    where
+      go : Event C chip chip-says e → e < 64
+      go (initially i g) = omega (arith, source.limits f s .1)
+      go (recorded i g) = omega (arith, chip-few)
+
+  types : (t a b : ℕ) → T (C .link t a b) → (1 ≤ t) × (t ≤ 6)
+  unfolding translated
+  types t a b h = go (new-is old t a b (sym (chip-says .link t a b) ∙ is-true (C .link t a b) h) .from)
+    where
+      go : Linked old t a b → (1 ≤ t) × (t ≤ 6)
+      go (stays p q k) = (p, q)
+      go (exclusively e _ _) = omega (arith, e)
+      go (casdep _ e _ _) = omega (arith, e)
+
+  same-value : (e : ℕ) → T (event S e) → C .value e ≡ S .value e
+  unfolding translated
+  same-value e h = go (event-says S old old-says e h)
+    where
+      go : Event S old old-says e → C .value e ≡ S .value e
+      go (initially i _) = chip-says .initial-value e i ∙ sym (old-says .initial-value e i)
+      go (recorded i g) =
+          chip-says .value e i (omega (arith, law.more-events old)) ∙ ap (λ (x : ℕ). x + 256 * chip .high e) (law.kept old (old .low) 0 e g)
+          ∙ ap (λ (x : ℕ). old .low e + 256 * x) (law.kept old (old .high) 0 e g) ∙ sym (old-says .value e i g)
+
+  values : (a b : ℕ) → T (C .link 1 a b) → C .value a ≡ C .value b
+  values a b h =
+      let e = sym (translated-relates .link 1 (omega arith) (omega arith) a b) ∙ is-true (C .link 1 a b) h in
+      let w = l .rf a b (holds (S .link 1 a b) e) in
+      same-value a (class-event S 2 a (w .0)) ∙ legal-values S (kind f) a b (source.legal f s 1 a b e) ∙ sym (same-value b (class-event S 1 b (w .1)))
+
+  link-sound : (b m : ℕ) → b ≤ chip .events → linksBefore chip (512 * b) < m → m ≤ linksUpTo chip b → linkSound (encode chip) b m ≡ true
+  unfolding linkSound linkRecord
+  link-sound b m g h k =
+      let fit = links-fit f s in
+      let t = linkByte (encode chip) m 1 in
+      let a = linkByte (encode chip) m 2 in
+      let w = numbered chip fit m (omega arith) (omega (arith, links-within chip fit b g)) in
+      let is = encoded-link chip fit t a b ∙ on-chain chip fit b m t a g h k refl refl in
+      and-both (linkLegal C (kind (encode chip)) t a b) (eqb (linkByte (encode chip) m 3) 0)
+      (legality.legal-link C chip-loads small types values (kind (encode chip)) t a b is)
+      (eq-eqb (linkByte (encode chip) m 3) 0 (link-byte chip fit m 3 w (omega arith)))
+
+  links-fine : badLink (encode chip) ≡ false
+  unfolding badLink linksSoundAt
+  links-fine = ap not (each-all (events (encode chip)) (linksSoundAt (encode chip)) (λ b h g.
+      let fit = links-fit f s in
+      let n : b ≤ chip .events = omega (arith, g, encode-events chip) in
+      and-both (allOf (linksInto (encode chip) b) (linkSound (encode chip) b)) (oneSource C b)
+      (ap (λ (k : List ℕ). allOf k (linkSound (encode chip) b)) (links-into chip fit b h n)
+      ∙ run-all (linksBefore chip (512 * b)) (linksAt chip fit b) (linkSound (encode chip) b) (λ m p q. link-sound b m n p (omega (arith, q, links-at chip fit b))))
+      (legality.one-source C chip-loads small types values b)))
+
+  -- 9: co.
+  no-ring : coRing (encode chip) ≡ false
+  unfolding coRing
+  no-ring = legality.no-co-ring C chip-loads small types values
+
+  -- 10: there is no strong write.
+  none-strong : (e : ℕ) → strongWrite C e ≡ false
+  unfolding translated
+  none-strong e = is-false (strongWrite C e) (λ p. none (sym (flagged-says C chip chip-says 2 e) ∙ p))
+    where
+      none : Rattle.translation.specs.Translate.flagged chip 2 e ≡ true → ⊥
+      none p =
+          let w = flagged-is chip 2 e p in
+          elim (decLe e (old .events)) [
+            | yes g ↦ (let c = sym (law.kept old (old .class) 3 e g) ∙ w .class in
+                let z = sym (law.kept old (newFlag old) 0 e g) ∙ w .flag in
+                elim (by-test (strong old e)) [
+                  | inl x ↦ omega (arith, law.flag-strong old e x)
+                  | inr x ↦ false≢true (sym x ∙ law.flagged-intro old 2 e (record { low = w .low; high = g; class = c; flag = sym (law.flag-kept old e x) ∙ z }))
+                ])
+            | no n ↦ omega (arith, law.made old (old .class) 3 e (omega (arith, n)), w .class)
+          ]
+
+  all-paired : unpaired (encode chip) ≡ false
+  unfolding unpaired pairedAt
+  all-paired = ap not (each-all (events (encode chip)) (pairedAt (encode chip)) (λ e h g.
+      or-left (not (strongWrite C e)) (some nodes (inverse (C .link 3) e)) (ap not (none-strong e))))
+
+  pub translated-accepted : Accepted (encode chip)
+  translated-accepted = record {
+    cause1 = long-enough;
+    cause2 = kind-known;
+    cause3 = within-limits;
+    cause4 = right-length;
+    cause5 = events-legal;
+    cause6 = threads-fine;
+    cause7 = chains-fine;
+    cause8 = links-fine;
+    cause9 = no-ring;
+    cause10 = all-paired;
+  }
+
+  pub translation-accepted : refusal (translation f) ≡ 0
+  unfolding translation
+  translation-accepted = accepts (encode chip) translated-accepted

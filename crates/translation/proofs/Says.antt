@@ -1,0 +1,189 @@
+-- A recording says of each event what contents say: the recording of a file says what its records say, and the recording of an
+-- encoded file what was encoded. Assumes nothing.
+use mathlib.Core.Path.{_≡_, refl, sym, ap, ap₂, _∙_}
+use mathlib.Core.Bool.{Bool, true, false, _&&_, _||_}
+use mathlib.Core.List.{List}
+use Prim.Native.Nat.{ℕ, zero, suc, _+_, _-_, _*_, _<_, _≤_}
+use native.Mathlib.Omega.{arith}
+use native.Mathlib.Nat.{add-zero}
+use borrow.Author.Tests.{eqb-true, eq-eqb, leb-true, le-leb, ltb-true, lt-ltb}
+use lib.Dec.{T, eqb, leb, ltb}
+use lib.ListN.{getD}
+use Rattle.relation.proofs.Meaning.{and-left, and-right, and-both}
+use mathlib.Core.Logic.{inl, inr}
+use Rattle.models.specs.Recording.{Recording, event}
+use Rattle.models.specs.Recording as recording
+use Rattle.models.proofs.Sets.{initial-event, recorded-event, event-cases, class-event, class-is, class-intro, flag-class, flag-is, flag-intro}
+use Rattle.recording.specs.Layout.{events, locations, eventByte}
+use Rattle.recording.specs.Chains.{nextOf, nextEvent}
+use Rattle.recording.specs.Decode.{isRecorded, isInitial, recordOr, fieldOr, decode}
+use Rattle.recording.proofs.FieldLaws.{recorded-bounds, recorded-is, record-initial, record-recorded, field-initial, field-recorded}
+use Rattle.translation.specs.Contents.{Contents, contents}
+use Rattle.translation.specs.Translate.{flagged}
+use Rattle.translation.specs.Encode.{eventRecord, encode}
+use Rattle.recording.proofs.Truth.{is-true, holds, same-test}
+use Rattle.translation.proofs.TranslateLaws.{Flagged, flagged-is, flagged-intro}
+use Rattle.translation.proofs.EncodeLaws.{encode-events, encode-locations, encode-event}
+use Rattle.translation.proofs.EncodedLinks.{LinksFit, encoded-link}
+
+pub record Says (r : Recording ℕ) (c : Contents) : Type 0 where
+  -- Events have records 1 to N; initial writes are 56 to 56 + L - 1.
+  pub few : c .events < 56
+  pub recorded : (e : ℕ) → T (r .recorded e) → (1 ≤ e) × (e ≤ c .events)
+  pub is-recorded : (e : ℕ) → 1 ≤ e → e ≤ c .events → T (r .recorded e)
+  pub initial : (e : ℕ) → T (r .initial e) → (56 ≤ e) × (e < 56 + c .locations)
+  pub is-initial : (e : ℕ) → 56 ≤ e → e < 56 + c .locations → T (r .initial e)
+  -- What a record says.
+  pub class : (e : ℕ) → 1 ≤ e → e ≤ c .events → r .class e ≡ c .class e
+  pub mode : (e : ℕ) → 1 ≤ e → e ≤ c .events → r .mode e ≡ c .mode e
+  pub flag : (e : ℕ) → 1 ≤ e → e ≤ c .events → r .flag e ≡ c .flag e
+  pub location : (e : ℕ) → 1 ≤ e → e ≤ c .events → r .location e ≡ c .location e
+  pub value : (e : ℕ) → 1 ≤ e → e ≤ c .events → r .value e ≡ c .low e + 256 * c .high e
+  -- What an initial write has.
+  pub initial-class : (e : ℕ) → 56 ≤ e → r .class e ≡ 2
+  pub initial-mode : (e : ℕ) → 56 ≤ e → r .mode e ≡ 0
+  pub initial-flag : (e : ℕ) → 56 ≤ e → r .flag e ≡ 0
+  pub initial-location : (e : ℕ) → 56 ≤ e → r .location e ≡ e - 56
+  pub initial-value : (e : ℕ) → 56 ≤ e → r .value e ≡ 0
+  -- Chains and links.
+  pub next : (a b : ℕ) → T (r .next a b) → (1 ≤ a) × (a ≤ c .events) × (1 ≤ b) × (b ≤ c .events) × (c .next a ≡ b)
+  pub is-next : (a b : ℕ) → 1 ≤ a → a ≤ c .events → 1 ≤ b → b ≤ c .events → c .next a ≡ b → T (r .next a b)
+  pub link : (t a b : ℕ) → r .link t a b ≡ c .link t a b
+
+-- Sets of events.
+module _ (r : Recording ℕ) (c : Contents) (q : Says r c) where
+  -- An event is an initial write or has a record.
+  pub data Event (e : ℕ) : Type 0 where
+    initially : 56 ≤ e → e < 56 + c .locations → Event e
+    recorded : 1 ≤ e → e ≤ c .events → Event e
+
+  pub event-says : (e : ℕ) → T (event r e) → Event e
+  event-says e h =
+      elim (event-cases r e h) [
+        | inl i ↦ (let w = q .initial e i in initially (w .0) (w .1))
+        | inr i ↦ (let w = q .recorded e i in recorded (w .0) (w .1))
+      ]
+
+  pub says-event : (e : ℕ) → Event e → T (event r e)
+  says-event e (initially h g) = initial-event r e (q .is-initial e h g)
+  says-event e (recorded h g) = recorded-event r e (q .is-recorded e h g)
+
+  -- The events with flag 1.
+  flagged-to : (k e : ℕ) → T (recording.flagged r k e) → Event e → flagged c k e ≡ true
+  flagged-to k e h (initially i _) = absurd (let x = q .initial-flag e i in let y = flag-is r k e h in omega arith)
+  flagged-to k e h (recorded i g) =
+      flagged-intro c k e (record { low = i; high = g; class = sym (q .class e i g) ∙ class-is r k e (flag-class r k e h); flag = sym (q .flag e i g) ∙ flag-is r k e h })
+
+  flagged-from : (k e : ℕ) → flagged c k e ≡ true → T (recording.flagged r k e)
+  flagged-from k e h =
+      let w = flagged-is c k e h in
+      flag-intro r k e (class-intro r k e (says-event e (recorded (w .low) (w .high))) (q .class e (w .low) (w .high) ∙ w .class)) (q .flag e (w .low) (w .high) ∙ w .flag)
+
+  pub flagged-says : (k e : ℕ) → recording.flagged r k e ≡ flagged c k e
+  flagged-says k e =
+      same-test (recording.flagged r k e) (flagged c k e)
+      (λ p. (let h = holds (recording.flagged r k e) p in flagged-to k e h (event-says e (class-event r k e (flag-class r k e h)))))
+      (λ p. is-true (recording.flagged r k e) (flagged-from k e p))
+
+-- The bytes of a file's records are those of contents.
+pub record Bytes (f : List ℕ) (c : Contents) : Type 0 where
+  pub few : c .events < 56
+  pub events : events f ≡ c .events
+  pub locations : locations f ≡ c .locations
+  pub next : (e : ℕ) → 1 ≤ e → e ≤ c .events → nextEvent f e ≡ c .next e
+  pub class : (e : ℕ) → 1 ≤ e → e ≤ c .events → eventByte f e 1 ≡ c .class e
+  pub mode : (e : ℕ) → 1 ≤ e → e ≤ c .events → eventByte f e 2 ≡ c .mode e
+  pub flag : (e : ℕ) → 1 ≤ e → e ≤ c .events → eventByte f e 3 ≡ c .flag e
+  pub location : (e : ℕ) → 1 ≤ e → e ≤ c .events → eventByte f e 4 ≡ c .location e
+  pub low : (e : ℕ) → 1 ≤ e → e ≤ c .events → eventByte f e 5 ≡ c .low e
+  pub high : (e : ℕ) → 1 ≤ e → e ≤ c .events → eventByte f e 6 ≡ c .high e
+  pub link : (t a b : ℕ) → decode f .link t a b ≡ c .link t a b
+
+module _ (f : List ℕ) (c : Contents) (b : Bytes f c) where
+  there : (e : ℕ) → 1 ≤ e → e ≤ c .events → isRecorded f e ≡ true
+  there e h g = recorded-is f e h (omega (arith, b .events))
+
+  field-at : (k given e x : ℕ) → eventByte f e k ≡ x → 1 ≤ e → e ≤ c .events → fieldOr f k given e ≡ x
+  field-at k given e x p h g = sym (field-recorded f k given e x (omega (arith, b .few)) (sym p) (there e h g))
+
+  initial-bounds : (e : ℕ) → isInitial f e ≡ true → (56 ≤ e) × (e < 56 + c .locations)
+  unfolding isInitial
+  initial-bounds e p =
+      (leb-true 56 e (and-left (leb 56 e) (ltb e (56 + locations f)) p), omega (arith, ltb-true e (56 + locations f) (and-right (leb 56 e) (ltb e (56 + locations f)) p), b .locations))
+
+  initial-is : (e : ℕ) → 56 ≤ e → e < 56 + c .locations → isInitial f e ≡ true
+  unfolding isInitial
+  initial-is e h g = and-both (leb 56 e) (ltb e (56 + locations f)) (le-leb 56 e h) (lt-ltb e (56 + locations f) (omega (arith, b .locations)))
+
+  pub bytes-say : Says (decode f) c
+  unfolding decode fieldOr
+  bytes-say =
+      record {
+        few = b .few;
+        recorded = λ e h. (let r = recorded-bounds f e (is-true (isRecorded f e) h) in (r .0, omega (arith, r .1, b .events)));
+        is-recorded = λ e h g. holds (isRecorded f e) (there e h g);
+        initial = λ e h. initial-bounds e (is-true (isInitial f e) h);
+        is-initial = λ e h g. holds (isInitial f e) (initial-is e h g);
+        class = λ e h g. field-at 1 2 e (c .class e) (b .class e h g) h g;
+        mode = λ e h g. field-at 2 0 e (c .mode e) (b .mode e h g) h g;
+        flag = λ e h g. field-at 3 0 e (c .flag e) (b .flag e h g) h g;
+        location = λ e h g. sym (record-recorded f (λ x. x - 56) (λ x. eventByte f x 4) e (omega (arith, b .few)) (there e h g)) ∙ b .location e h g;
+        value = λ e h g. ap₂ (λ (x y : ℕ). x + 256 * y) (field-at 5 0 e (c .low e) (b .low e h g) h g) (field-at 6 0 e (c .high e) (b .high e h g) h g);
+        initial-class = λ e h. sym (field-initial f 1 2 e h);
+        initial-mode = λ e h. sym (field-initial f 2 0 e h);
+        initial-flag = λ e h. sym (field-initial f 3 0 e h);
+        initial-location = λ e h. sym (record-initial f (λ x. x - 56) (λ x. eventByte f x 4) e h);
+        initial-value = λ e h. ap₂ (λ (x y : ℕ). x + 256 * y) (sym (field-initial f 5 0 e h)) (sym (field-initial f 6 0 e h));
+        next = λ x y h. next-parts x y (is-true (isRecorded f x && isRecorded f y && eqb (nextEvent f x) y) h);
+        is-next = λ x y p q u v e. holds (isRecorded f x && isRecorded f y && eqb (nextEvent f x) y)
+            (and-both (isRecorded f x && isRecorded f y) (eqb (nextEvent f x) y) (and-both (isRecorded f x) (isRecorded f y) (there x p q) (there y u v))
+            (eq-eqb (nextEvent f x) y (b .next x p q ∙ e)));
+        link = b .link;
+      }
+    where
+      next-parts : (x y : ℕ) → isRecorded f x && isRecorded f y && eqb (nextEvent f x) y ≡ true → (1 ≤ x) × (x ≤ c .events) × (1 ≤ y) × (y ≤ c .events) × (c .next x ≡ y)
+      next-parts x y p =
+          let both = and-left (isRecorded f x && isRecorded f y) (eqb (nextEvent f x) y) p in
+          let u = recorded-bounds f x (and-left (isRecorded f x) (isRecorded f y) both) in
+          let v = recorded-bounds f y (and-right (isRecorded f x) (isRecorded f y) both) in
+          let g : x ≤ c .events = omega (arith, u .1, b .events) in
+          (u .0, g, v .0, omega (arith, v .1, b .events), sym (b .next x (u .0) g) ∙ eqb-true (nextEvent f x) y (and-right (isRecorded f x && isRecorded f y) (eqb (nextEvent f x) y) p))
+
+-- A file says what its records say.
+pub contents-say : (f : List ℕ) → events f < 56 → Says (decode f) (contents f)
+unfolding contents
+contents-say f h = bytes-say f (contents f) (record {
+  few = h;
+  events = refl;
+  locations = refl;
+  next = λ e p q. refl;
+  class = λ e p q. refl;
+  mode = λ e p q. refl;
+  flag = λ e p q. refl;
+  location = λ e p q. refl;
+  low = λ e p q. refl;
+  high = λ e p q. refl;
+  link = λ t a b. refl;
+})
+
+-- An encoded file says what was encoded.
+module _ (c : Contents) where
+  pub encode-next : (e : ℕ) → 1 ≤ e → e ≤ c .events → nextEvent (encode c) e ≡ c .next e
+  unfolding nextOf eventRecord
+  encode-next e h g = ap (λ (i : ℕ). getD (encode c) i 0) (sym (add-zero (8 + 8 * (e - 1)))) ∙ encode-event c e 0 h g (omega arith)
+
+  pub encode-says : LinksFit c → c .events < 56 → Says (decode (encode c)) c
+  unfolding eventRecord
+  encode-says fit h = bytes-say (encode c) c (record {
+    few = h;
+    events = encode-events c;
+    locations = encode-locations c;
+    next = encode-next;
+    class = λ e p q. encode-event c e 1 p q (omega arith);
+    mode = λ e p q. encode-event c e 2 p q (omega arith);
+    flag = λ e p q. encode-event c e 3 p q (omega arith);
+    location = λ e p q. encode-event c e 4 p q (omega arith);
+    low = λ e p q. encode-event c e 5 p q (omega arith);
+    high = λ e p q. encode-event c e 6 p q (omega arith);
+    link = encoded-link c fit;
+  })

@@ -1,0 +1,78 @@
+-- What loading ensures of a source file for its translation: the limits, chains and links that the definitions and the code go by.
+-- Assumes nothing.
+use mathlib.Core.Path.{_≡_}
+use mathlib.Core.Bool.{true, _&&_}
+use mathlib.Core.List.{List, []}
+use Prim.Native.Nat.{ℕ, _<_, _≤_}
+use native.Mathlib.Omega.{arith}
+use lib.Dec.{eqb}
+use Rattle.relation.specs.Rel.{some}
+use Rattle.relation.proofs.Meaning.{and-left, and-right}
+use Rattle.models.specs.Recording as recording
+use Rattle.models.specs.Recording.{event}
+use Rattle.models.specs.Loads.{Loads}
+use Rattle.recording.specs.Layout.{kind, events, locations, links, threads, linkByte, Sized}
+use Rattle.recording.specs.Chains.{nextEvent, head, linksInto, met, fresh, allMet, onceEach, among}
+use Rattle.recording.specs.Decode.{isRecorded, decode}
+use Rattle.recording.specs.Causes.{linkLegal}
+use Rattle.recording.proofs.FieldLaws.{recorded-bounds, event-small}
+use Rattle.recording.proofs.ChainLaws.{each-at}
+use Rattle.recording.proofs.Truth.{is-true, holds}
+use Rattle.recording.proofs.ChainFacts.{chain-ended, ended-next, met-cases}
+use Rattle.recording.proofs.Accepted.{Accepted, accepted, threads-sound, legal-link, source-limits, source-sized}
+use Rattle.recording.proofs.Loaded as loaded
+use Rattle.translation.specs.Contents.{contents}
+use Rattle.translation.specs.Translate.{flagged}
+use Rattle.translation.specs.Parts.{Source}
+use Rattle.translation.proofs.Says.{Says, contents-say, flagged-says}
+
+module _ (f : List ℕ) (s : Source f) where
+  pub accepted-source : Accepted f
+  accepted-source = accepted f (s .loads)
+
+  pub sized : Sized f
+  sized = source-sized f accepted-source (s .source)
+
+  pub limits : (events f ≤ 32) × (locations f ≤ 8) × (links f ≤ 200)
+  limits = source-limits f accepted-source (s .source)
+
+  pub few-events : contents f .events < 64
+  unfolding contents
+  few-events = omega (arith, limits .0)
+
+  pub loads : Loads (decode f)
+  loads = loaded.loads f (s .loads)
+
+  -- Links.
+  pub legal : (t a b : ℕ) → decode f .link t a b ≡ true → linkLegal (decode f) (kind f) t a b ≡ true
+  legal = legal-link f accepted-source
+
+  pub link-source : (t a b : ℕ) → decode f .link t a b ≡ true → a < 64
+  link-source t a b e =
+      event-small f a sized (is-true (event (decode f) a) (loaded.loaded-within f (s .loads) .link-source t a b (holds (decode f .link t a b) e)))
+
+  pub link-target : (t a b : ℕ) → decode f .link t a b ≡ true → (1 ≤ b) × (b ≤ events f)
+  unfolding decode
+  link-target t a b e = recorded-bounds f b (and-left (isRecorded f b) (some (linksInto f b) (λ m. eqb (linkByte f m 1) t && eqb (linkByte f m 2) a)) e)
+
+  -- Chains.
+  threads-fresh : fresh (events f) [] (met (events f) (nextEvent f) (head f) threads) ≡ true
+  unfolding onceEach
+  threads-fresh =
+      let l = met (events f) (nextEvent f) (head f) threads in
+      and-left (fresh (events f) [] l) (allMet (events f) l) (threads-sound f accepted-source)
+
+  pub next-within : (e : ℕ) → 1 ≤ e → e ≤ events f → nextEvent f e ≤ events f
+  unfolding onceEach
+  next-within e h g =
+      let l = met (events f) (nextEvent f) (head f) threads in
+      let m = each-at (events f) (λ x. among x l) (and-right (fresh (events f) [] l) (allMet (events f) l) (threads-sound f accepted-source)) e h g in
+      let w = met-cases (events f) (nextEvent f) (head f) threads e m in
+      ended-next (events f) (nextEvent f) e (chain-ended (events f) (nextEvent f) (head f) threads (w .0) (w .1) threads-fresh) (w .2)
+
+  -- The recording says what the records say.
+  pub says : Says (decode f) (contents f)
+  says = contents-say f (omega (arith, limits .0))
+
+  pub flagged-decoded : (k e : ℕ) → recording.flagged (decode f) k e ≡ flagged (contents f) k e
+  flagged-decoded = flagged-says (decode f) (contents f) says

@@ -1,0 +1,60 @@
+-- `link::controlled` meets its contract: after the pair's write, or after the read. Assumes nothing.
+use native.Mathlib.Omega.{arith}
+use Rattle.translation.proofs.SourceFacts.{sized, limits}
+use Rattle.translation.proofs.LinkRows.{readable, pair-new, pair-controls, read-controls, old-new}
+use borrow.Author.Needs.{needs}
+use Rattle.translation.proofs.link.controlled.Statement.{statement}
+use Rattle.translation.proofs.link.controlled.Tie as tie
+
+event-byte-requires : tie.Need-event-byte-requires
+event-byte-requires c κs = (let start = c .before in (sized _ (start .pre .0), start .pre .1, start .pre .2, search needs))
+
+sources-of-requires : tie.Need-sources-of-requires
+sources-of-requires c κs = readable _ (c .before .before .pre .0)
+
+sources-of-requires-2 : tie.Need-sources-of-requires-2
+sources-of-requires-2 c κs = readable _ (c .before .before .before .pre .0)
+
+and-requires : tie.Need-and-requires
+and-requires c κs = search needs
+
+has-requires : tie.Need-has-requires
+has-requires c κs = (let start = c .before .before .before .before .before in omega (arith, limits _ (start .pre .0), start .pre .2))
+
+after-requires : tie.Need-after-requires
+after-requires c κs =
+    let rows = c .before .before .before .before in
+    let start = rows .before .before .before in
+    (start .pre .0, pair-new _ (start .pre .0) _ _ _ _ _ _ (rows .before .event-byte .ensures .0) (rows .sources-of .ensures) (c .before .before .before .sources-of2 .ensures) (c .before .before .and .ensures) (c .before .has .ensures) (c .if1 .taken))
+
+returns : tie.Need-returns
+returns c =
+    let rows = c .before .before .before .before .before in
+    let start = rows .before .before .before in
+    (pair-controls _ (start .pre .0) _ _ _ _ _ _ (rows .before .event-byte .ensures .0) (rows .sources-of .ensures) (c .before .before .before .before .sources-of2 .ensures) (c .before .before .before .and .ensures) (c .before .before .has .ensures) (c .before .if1 .taken) _ (c .after .ensures .0), c .after .ensures .1)
+
+after-requires-2 : tie.Need-after-requires-2
+after-requires-2 c κs =
+    let rows = c .before .before .before .before in
+    let start = rows .before .before .before in
+    (start .pre .0, old-new _ (start .pre .0) _ (start .pre .1) (start .pre .2))
+
+returns-2 : tie.Need-returns-2
+returns-2 c =
+    let rows = c .before .before .before .before .before in
+    let start = rows .before .before .before in
+    (read-controls _ (start .pre .0) _ _ _ _ _ _ (rows .before .event-byte .ensures .0) (rows .sources-of .ensures) (c .before .before .before .before .sources-of2 .ensures) (c .before .before .before .and .ensures) (c .before .before .has .ensures) (c .before .if1 .left) _ (c .after2 .ensures .0), c .after2 .ensures .1)
+
+pub controlled-spec : {M : Type 1} → statement M
+controlled-spec =
+    tie.close
+    (tie.spec
+    event-byte-requires
+    sources-of-requires
+    sources-of-requires-2
+    and-requires
+    has-requires
+    after-requires
+    returns
+    after-requires-2
+    returns-2)

@@ -1,0 +1,50 @@
+-- `link::ctrl` meets its contract. Assumes nothing.
+use Rattle.translation.proofs.LinkRows.{readable, ctrl-is}
+use borrow.Author.Needs.{needs}
+use Rattle.translation.proofs.link.ctrl.Statement.{statement}
+use Rattle.translation.proofs.link.ctrl.Tie as tie
+
+links-requires : tie.Need-links-requires
+links-requires c κs = readable _ (c .before .pre)
+
+links-requires-2 : tie.Need-links-requires-2
+links-requires-2 c κs = readable _ (c .before .before .pre)
+
+target-rows-requires : tie.Need-target-rows-requires
+target-rows-requires c κs = search needs
+
+then-requires : tie.Need-then-requires
+then-requires c κs = search needs
+
+target-rows-requires-2 : tie.Need-target-rows-requires-2
+target-rows-requires-2 c κs = search needs
+
+or-requires : tie.Need-or-requires
+or-requires c κs = search needs
+
+or-requires-2 : tie.Need-or-requires-2
+or-requires-2 c κs = search needs
+
+inverse-requires : tie.Need-inverse-requires
+inverse-requires c κs = search needs
+
+returns : tie.Need-returns
+returns c =
+    let steps = c .before .before .before .before .before in
+    let links = steps .before .before in
+    ctrl-is _ (links .before .before .pre) _ _ _ _ _ _ _ _ (links .links .ensures) (steps .before .links2 .ensures) (steps .target-rows .ensures) (c .before .before .before .before .then .ensures)
+    (c .before .before .before .target-rows2 .ensures) (c .before .before .or .ensures) (c .before .or2 .ensures) (c .inverse .ensures)
+
+pub ctrl-spec : {M : Type 1} → statement M
+ctrl-spec =
+    tie.close
+    (tie.spec
+    links-requires
+    links-requires-2
+    target-rows-requires
+    then-requires
+    target-rows-requires-2
+    or-requires
+    or-requires-2
+    inverse-requires
+    returns)

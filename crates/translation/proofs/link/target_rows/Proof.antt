@@ -1,0 +1,62 @@
+-- `link::target_rows` meets its contract, row by row. Assumes nothing.
+use Prim.Native.Nat.{ℕ, _-_, _≤_}
+use Rattle.relation.specs.Rel.{none}
+use Rattle.relation.proofs.GridLaws.{Rows, rows-none-of, rows-set, rows-all}
+use Rattle.translation.specs.Contents.{contents}
+use Rattle.translation.specs.Parts.{Source, targets}
+use Rattle.translation.proofs.LinkRows.{targets-out}
+use borrow.Author.Needs.{needs}
+use Rattle.translation.proofs.link.target_rows.Statement.{statement}
+use Rattle.translation.proofs.link.target_rows.Tie as tie
+
+abbrev Inv-loop : tie.InvT-loop
+Inv-loop file exclusive h₀ e₀ h e = (e ≤ 64) × Source file × Rows (targets (contents file) exclusive) none h e
+
+abbrev μ-loop : tie.MeasureT-loop
+μ-loop file exclusive h₀ e₀ h e = 64 - e
+
+empty-requires : tie.Need-empty-requires Inv-loop μ-loop
+empty-requires c κs = search needs
+
+loop-holds : tie.Need-loop-holds Inv-loop μ-loop
+loop-holds c = (search needs, c .before .before .pre, rows-none-of _ _ _ (search needs) (c .empty .ensures))
+
+target-row-requires : tie.Need-target-row-requires Inv-loop μ-loop
+target-row-requires c κs = c .before .loop .inv .1
+
+mul-h : tie.Need-mul-h Inv-loop μ-loop
+mul-h c = search needs
+
+array-set-from-h : tie.Need-array-set-from-h Inv-loop μ-loop
+array-set-from-h c = search needs
+
+add-e : tie.Need-add-e Inv-loop μ-loop
+add-e c = search needs
+
+loop-less : tie.Need-loop-less Inv-loop μ-loop
+loop-less c = search needs
+
+loop-again : tie.Need-loop-again Inv-loop μ-loop
+loop-again c =
+    let turn = c .before in
+    let inv = turn .before .loop .inv in
+    (search needs, inv .1, rows-set _ _ _ _ _ (inv .2) (turn .loop-test .taken) (c .target-row .ensures))
+
+returns : tie.Need-returns Inv-loop μ-loop
+returns c = rows-all _ _ _ _ (c .loop-test .left) (c .before .loop .inv .2) (targets-out _ (c .before .loop .inv .1) _)
+
+pub target-rows-spec : {M : Type 1} → statement M
+target-rows-spec =
+    tie.close
+    (tie.spec
+    Inv-loop
+    μ-loop
+    empty-requires
+    loop-holds
+    target-row-requires
+    mul-h
+    array-set-from-h
+    add-e
+    loop-less
+    loop-again
+    returns)

@@ -1,0 +1,57 @@
+-- `output::put` meets its contract, byte by byte. Assumes nothing.
+use Prim.Native.Nat.{ℕ, _-_, _≤_}
+use native.Mathlib.Omega.{arith}
+use lib.ListN.{length}
+use Rattle.translation.proofs.OutputLaws.{Putting, putting-none, putting-more, putting-all}
+use borrow.Author.Needs.{needs}
+use Rattle.translation.proofs.output.put.Statement.{statement}
+use Rattle.translation.proofs.output.put.Tie as tie
+
+abbrev Inv-loop : tie.InvT-loop
+Inv-loop out₀ at bytes k₀ out k = (k ≤ length bytes) × Putting out₀ at bytes k out
+
+abbrev μ-loop : tie.MeasureT-loop
+μ-loop out₀ at bytes k₀ out k = length bytes - k
+
+loop-holds : tie.Need-loop-holds Inv-loop μ-loop
+loop-holds c = (search needs, putting-none _ _ _ (c .pre))
+
+shared-slice-read-out : tie.Need-shared-slice-read-out Inv-loop μ-loop
+shared-slice-read-out c = search needs
+
+add-out : tie.Need-add-out Inv-loop μ-loop
+add-out c = (let inv = c .before .before .loop .inv in omega (arith, inv .1 .room, inv .1 .long))
+
+slice-write-out : tie.Need-slice-write-out Inv-loop μ-loop
+slice-write-out c = (let inv = c .before .before .loop .inv in omega (arith, inv .1 .room, inv .1 .long))
+
+add-k : tie.Need-add-k Inv-loop μ-loop
+add-k c = search needs
+
+loop-less : tie.Need-loop-less Inv-loop μ-loop
+loop-less c = search needs
+
+loop-again : tie.Need-loop-again Inv-loop μ-loop
+loop-again c = (let turn = c .before in (search needs, putting-more _ _ _ _ _ (turn .before .loop .inv .1) (turn .loop-test .taken)))
+
+same-length : tie.Need-same-length Inv-loop μ-loop
+same-length c = c .before .loop .inv .1 .long
+
+returns : tie.Need-returns Inv-loop μ-loop
+returns c = putting-all _ _ _ _ _ (c .before .loop .inv .1) (omega arith)
+
+pub put-spec : {M : Type 1} → statement M
+put-spec =
+    tie.close
+    (tie.spec
+    Inv-loop
+    μ-loop
+    loop-holds
+    shared-slice-read-out
+    add-out
+    slice-write-out
+    add-k
+    loop-less
+    loop-again
+    same-length
+    returns)

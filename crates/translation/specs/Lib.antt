@@ -1,0 +1,6 @@
+-- The definitions that the contracts of `translation` cite.
+pub mod Contents
+pub mod Translate
+pub mod Encode
+pub mod Answer
+pub mod Parts

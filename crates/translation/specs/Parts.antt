@@ -1,0 +1,45 @@
+-- What the parts of the translator ask for and answer. Assumes nothing.
+use mathlib.Core.Path.{_≡_}
+use mathlib.Core.Bool.{Bool, true, false, _&&_}
+use mathlib.Core.List.{List, [], _∷_, _++_}
+use Prim.Native.Nat.{ℕ, suc, _+_, _≤_}
+use lib.Dec.{leb}
+use lib.ListN.{length, take, drop}
+use Rattle.relation.specs.Rel.{Set, Rel, either, inverse, count}
+use Rattle.recording.specs.Layout.{kind}
+use Rattle.recording.specs.Causes.{refusal}
+use Rattle.translation.specs.Contents.{Contents}
+use Rattle.translation.specs.Translate.{newEvents, follows, fromExclusive, fromCasdep}
+use Rattle.translation.specs.Encode.{chained, records, isLink, linkRecord}
+
+-- A source file that loads.
+pub record Source (f : List ℕ) : Type 0 where
+  pub loads : refusal f ≡ 0
+  pub source : kind f ≡ 1
+
+-- The bytes with a record in place of what stood from a place on.
+unfoldable pub placed : List ℕ → ℕ → List ℕ → List ℕ
+placed out at record-bytes = take at out ++ (record-bytes ++ drop (at + length record-bytes) out)
+
+module _ (s : Contents) where
+  -- An event of the translation.
+  pub record NewEvent (e : ℕ) : Type 0 where
+    pub low : 1 ≤ e
+    pub high : e ≤ newEvents s
+
+  -- Where added ctrl links go: from each exclusive read, or from each event to the one directly after it.
+  unfoldable pub targets : Bool → Rel
+  targets true e b = fromExclusive s e b
+  targets false e b = (leb 1 e && leb e (s .events)) && follows s e b
+
+  -- The ctrl links of the translation, from target to source.
+  unfoldable pub ctrlInto : Rel
+  ctrlInto = inverse (either (s .link 6) (either (fromExclusive s) (fromCasdep s)))
+
+-- The record of the link of type t from a, where n links come before those of the row, and `last` is the number of the last into the same event.
+unfoldable pub rowRecord : ℕ → ℕ → ℕ → Set → ℕ → List ℕ
+rowRecord t last n row a = chained last (suc (n + count a row)) ∷ t ∷ a ∷ 0 ∷ []
+
+-- The records of the links numbered from k on, d numbers in all.
+unfoldable pub linkStretch : Contents → ℕ → ℕ → List ℕ
+linkStretch c k d = records (λ i. linkRecord c (k + i)) (λ i. isLink c (k + i)) d

@@ -1,0 +1,42 @@
+// The translation of a source recording to a chip recording, byte by byte.
+
+pub mod event;
+pub mod link;
+pub mod output;
+pub mod write;
+
+use recording::causes;
+ghost use mathlib.Core.Path.{_≡_};
+ghost use lib.ListN.{length};
+ghost use Rattle.translation.specs.Answer.{translationOf, outputOf};
+
+// What a call answers: the number of the cause that refused it, or the length written.
+pub enum Translation {
+    Refused(u8),
+    Written(usize),
+}
+
+// Writes the translation of a file to the start of the output. Refused with 1 to 10 as loading does, with 11 where the file is of kind 2,
+// with 12 where the output is shorter than the translation; a refusal leaves the output as it was.
+pub fn translate(file: &[u8], out: &mut [u8]) -> Translation
+    ensures answer { λ r. ⌜ r ≡ translationOf (now (file .entry)) (length (now (out .entry))) ⌝ }
+    ensures output { λ _. ⌜ now (out .exit) ≡ outputOf (now (file .entry)) (now (out .entry)) ⌝ }
+{
+    let k = causes::cause(file, 1);
+    if k != 0 {
+        return Translation::Refused(k);
+    }
+    let ctrl = link::ctrl(file);
+    let n = event::new_events(file);
+    let m = link::count_links(file, ctrl, n);
+    let start = 8 + 8 * n;
+    let length = start + 4 * m;
+    if out.len() < length {
+        return Translation::Refused(12);
+    }
+    let header = write::header(file, n, m);
+    output::put(out, 0, &header);
+    write::write_events(out, file, ctrl, n);
+    write::write_links(&mut out[start..], file, ctrl, n);
+    Translation::Written(length)
+}

@@ -1,0 +1,116 @@
+// The links of the translation of a source file that loads, as rows of sources by target and type, and how many there are.
+
+use crate::event;
+use recording::field;
+use recording::graph;
+use relation::grid;
+use relation::row;
+ghost use mathlib.Core.Path.{_≡_};
+ghost use Prim.Native.Nat.{ℕ, suc, _+_, _*_, _≤_, _<_};
+ghost use Rattle.relation.specs.Rel.{inverse};
+ghost use Rattle.relation.specs.Bits.{bit, edge};
+ghost use Rattle.recording.specs.Layout.{events};
+ghost use Rattle.translation.specs.Contents.{contents};
+ghost use Rattle.translation.specs.Translate.{newEvents, controlled, newLink, translated};
+ghost use Rattle.translation.specs.Encode.{linksBefore, linksUpTo};
+ghost use Rattle.translation.specs.Parts.{Source, NewEvent, targets, ctrlInto};
+
+// The event that the ctrl link from the exclusive read r goes to: the one directly after r, or after its write where r has both rmw and
+// data to it.
+pub fn controlled(file: &[u8], r: usize) -> usize
+    requires { ⌜ Source (now file) × (1 ≤ r) × (r ≤ events (now file)) ⌝ }
+    ensures { λ x. ⌜ (x ≡ controlled (contents (now (file .entry))) r) × (x ≤ 48) ⌝ }
+{
+    let w = field::event_byte(file, r, 0);
+    let both = row::and(graph::sources_of(file, w, 3), graph::sources_of(file, w, 4));
+    if row::has(both, r) {
+        return event::after(file, w);
+    }
+    event::after(file, r)
+}
+
+// Where an added ctrl link goes: from e as an exclusive read, or as the end of a casdep link.
+pub fn target_row(file: &[u8], exclusive: bool, e: usize) -> [u8; 8]
+    requires { ⌜ Source (now file) ⌝ }
+    ensures { λ r. ⌜ bit r ≡ targets (contents (now (file .entry))) exclusive e ⌝ }
+{
+    if exclusive {
+        if !field::is_flagged(file, e, 1) {
+            return row::none();
+        }
+        return row::with(row::none(), controlled(file, e));
+    }
+    if !field::is_recorded(file, e) {
+        return row::none();
+    }
+    row::with(row::none(), event::after(file, e))
+}
+
+pub fn target_rows(file: &[u8], exclusive: bool) -> [[u8; 8]; 64]
+    requires { ⌜ Source (now file) ⌝ }
+    ensures { λ r. ⌜ edge r ≡ targets (contents (now (file .entry))) exclusive ⌝ }
+{
+    let mut h = grid::empty();
+    let mut e: usize = 0;
+    while e < 64 {
+        h[e] = target_row(file, exclusive, e);
+        e += 1;
+    }
+    h
+}
+
+// The ctrl links, with a row for each target: those of the source, one from each exclusive read, one for each casdep link.
+pub fn ctrl(file: &[u8]) -> [[u8; 8]; 64]
+    requires { ⌜ Source (now file) ⌝ }
+    ensures { λ r. ⌜ edge r ≡ ctrlInto (contents (now (file .entry))) ⌝ }
+{
+    let kept = graph::links(file, 6);
+    let casdep = grid::then(graph::links(file, 7), target_rows(file, false));
+    grid::inverse(grid::or(kept, grid::or(target_rows(file, true), casdep)))
+}
+
+// The sources of the links of type t into b.
+pub fn sources(file: &[u8], ctrl: [[u8; 8]; 64], b: usize, t: usize) -> [u8; 8]
+    requires { ⌜ Source (now file) × NewEvent (contents (now file)) b × (edge ctrl ≡ ctrlInto (contents (now file))) × (t < 8) ⌝ }
+    ensures { λ r. ⌜ bit r ≡ inverse (newLink (contents (now (file .entry))) t) b ⌝ }
+{
+    if t == 6 {
+        return grid::row_of(ctrl, b);
+    }
+    if t == 0 {
+        return row::none();
+    }
+    if t == 7 {
+        return row::none();
+    }
+    graph::sources_of(file, b, t)
+}
+
+// How many links there are into events 1 to b, where there are n into smaller ones.
+pub fn links_up_to(file: &[u8], ctrl: [[u8; 8]; 64], b: usize, n: usize) -> usize
+    requires { ⌜ Source (now file) × NewEvent (contents (now file)) b × (edge ctrl ≡ ctrlInto (contents (now file))) × (n ≡ linksBefore (translated (contents (now file))) (512 * b)) ⌝ }
+    ensures { λ r. ⌜ (r ≡ linksUpTo (translated (contents (now (file .entry)))) b) × (r ≤ 232) ⌝ }
+{
+    let mut m = n;
+    let mut t: usize = 0;
+    while t < 8 {
+        m += row::size(sources(file, ctrl, b, t));
+        t += 1;
+    }
+    m
+}
+
+// How many links there are, where there are n events.
+pub fn count_links(file: &[u8], ctrl: [[u8; 8]; 64], n: usize) -> usize
+    requires { ⌜ Source (now file) × (n ≡ newEvents (contents (now file))) × (edge ctrl ≡ ctrlInto (contents (now file))) ⌝ }
+    ensures { λ r. ⌜ (r ≡ linksUpTo (translated (contents (now (file .entry)))) n) × (r ≤ 232) ⌝ }
+{
+    let mut m: usize = 0;
+    let mut b: usize = 1;
+    while b <= n {
+        let z = links_up_to(file, ctrl, b, m);
+        m = z;
+        b += 1;
+    }
+    m
+}

@@ -1,0 +1,114 @@
+// Writing the translation of a source file that loads: header, event records, link records.
+
+use crate::event;
+use crate::link;
+use crate::output;
+use relation::row;
+ghost use mathlib.Core.Path.{_≡_};
+ghost use Prim.Native.Nat.{ℕ, suc, _+_, _*_, _≤_, _<_};
+ghost use lib.ListN.{length};
+ghost use Rattle.relation.specs.Rel.{count};
+ghost use Rattle.relation.specs.Bits.{bit, edge};
+ghost use Rattle.translation.specs.Contents.{contents};
+ghost use Rattle.translation.specs.Translate.{newEvents, translated};
+ghost use Rattle.translation.specs.Encode.{chained, linksBefore, linksUpTo, header, eventRecord, eventRecords, linkRecords, records};
+ghost use Rattle.translation.specs.Parts.{Source, NewEvent, ctrlInto, placed, rowRecord, linkStretch};
+
+// The header: kind 2, the new N and M, the old L and heads.
+pub fn header(file: &[u8], n: usize, m: usize) -> [u8; 8]
+    requires { ⌜ Source (now file) × (n ≡ newEvents (contents (now file))) × (m ≡ linksUpTo (translated (contents (now file))) n) ⌝ }
+    ensures { λ r. ⌜ r ≡ header (translated (contents (now (file .entry)))) ⌝ }
+{
+    [
+        2,
+        n as u8,
+        file[2],
+        m as u8,
+        file[4],
+        file[5],
+        file[6],
+        file[7],
+    ]
+}
+
+// The record of event e, whose first link is given.
+pub fn event_record(file: &[u8], e: usize, first: usize) -> [u8; 8]
+    requires { ⌜ Source (now file) × NewEvent (contents (now file)) e × (first < 256) × (first ≡ chained (linksUpTo (translated (contents (now file))) e) (linksBefore (translated (contents (now file))) (512 * e))) ⌝ }
+    ensures { λ r. ⌜ r ≡ eventRecord (translated (contents (now (file .entry)))) e ⌝ }
+{
+    [
+        event::after(file, e) as u8,
+        event::kept_or(file, e, 1, 3) as u8,
+        event::new_mode(file, e) as u8,
+        event::new_flag(file, e) as u8,
+        event::kept_or(file, e, 4, 0) as u8,
+        event::kept_or(file, e, 5, 0) as u8,
+        event::kept_or(file, e, 6, 0) as u8,
+        first as u8,
+    ]
+}
+
+// Writes the event records behind the header, where there are n events.
+pub fn write_events(out: &mut [u8], file: &[u8], ctrl: [[u8; 8]; 64], n: usize)
+    requires { ⌜ Source (now file) × (n ≡ newEvents (contents (now file))) × (edge ctrl ≡ ctrlInto (contents (now file))) × (8 + 8 * n ≤ length (now out)) ⌝ }
+    ensures { λ _. ⌜ now (out .exit) ≡ placed (now (out .entry)) 8 (eventRecords (translated (contents (now (file .entry)))) (suc n)) ⌝ }
+{
+    let mut before: usize = 0;
+    let mut e: usize = 1;
+    while e <= n {
+        let last = link::links_up_to(file, ctrl, e, before);
+        let bytes = event_record(file, e, output::chained(last, before));
+        output::put(out, 8 * e, &bytes);
+        before = last;
+        e += 1;
+    }
+}
+
+// Writes the links of type t into one event from the sources of a row, where n links come before them and last is the number of the
+// last link into that event. Answers how many links then are written.
+pub fn write_row(part: &mut [u8], row: [u8; 8], t: usize, last: usize, n: usize) -> usize
+    requires { ⌜ (t < 8) × (last < 256) × (n < 256) × (4 * (n + count 64 (bit row)) ≤ length (now part)) ⌝ }
+    ensures { λ r. ⌜ (r ≡ n + count 64 (bit row)) × (now (part .exit) ≡ placed (now (part .entry)) (4 * n) (records (rowRecord t last n (bit row)) (bit row) 64)) ⌝ }
+{
+    let mut m = n;
+    let mut a: usize = 0;
+    while a < 64 {
+        if row::has(row, a) {
+            let bytes = [output::chained(last, m + 1) as u8, t as u8, a as u8, 0];
+            output::put(part, 4 * m, &bytes);
+            m += 1;
+        }
+        a += 1;
+    }
+    m
+}
+
+// Writes the links into b, where n links come before them. Answers how many links then are written.
+pub fn write_into(part: &mut [u8], file: &[u8], ctrl: [[u8; 8]; 64], b: usize, n: usize) -> usize
+    requires { ⌜ Source (now file) × NewEvent (contents (now file)) b × (edge ctrl ≡ ctrlInto (contents (now file))) × (n ≡ linksBefore (translated (contents (now file))) (512 * b)) × (4 * linksUpTo (translated (contents (now file))) b ≤ length (now part)) ⌝ }
+    ensures { λ r. ⌜ (r ≡ linksUpTo (translated (contents (now (file .entry)))) b) × (now (part .exit) ≡ placed (now (part .entry)) (4 * n) (linkStretch (translated (contents (now (file .entry)))) (512 * b) 512)) ⌝ }
+{
+    let last = link::links_up_to(file, ctrl, b, n);
+    let mut m = n;
+    let mut t: usize = 0;
+    while t < 8 {
+        let z = write_row(part, link::sources(file, ctrl, b, t), t, last, m);
+        m = z;
+        t += 1;
+    }
+    m
+}
+
+// The link writer: writes the links at the start of the part that lies behind the events, where there are n events.
+pub fn write_links(part: &mut [u8], file: &[u8], ctrl: [[u8; 8]; 64], n: usize)
+    requires { ⌜ Source (now file) × (n ≡ newEvents (contents (now file))) × (edge ctrl ≡ ctrlInto (contents (now file))) × (4 * linksUpTo (translated (contents (now file))) n ≤ length (now part)) ⌝ }
+    ensures { λ _. ⌜ now (part .exit) ≡ placed (now (part .entry)) 0 (linkRecords (translated (contents (now (file .entry)))) (512 * suc n)) ⌝ }
+{
+    let mut m: usize = 0;
+    let mut b: usize = 1;
+    while b <= n {
+        let z = write_into(part, file, ctrl, b, m);
+        m = z;
+        b += 1;
+    }
+}
