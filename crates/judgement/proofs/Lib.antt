@@ -1,0 +1,3 @@
+-- The laws and proofs of `judgement`.
+pub mod ChipLaws
+pub mod PrintLaws

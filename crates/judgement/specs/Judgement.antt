@@ -1,0 +1,62 @@
+-- What the judge says of a file as a whole (01, "What is shown"): the verdict on a translation, and the lines that are printed. Assumes nothing.
+use mathlib.Core.Path.{_≡_}
+use mathlib.Core.List.{List, [], _++_}
+use Prim.Native.Nat.{ℕ, suc, _≤_, _<_}
+use lib.ListN.{length}
+use lib.Seq.{sets}
+use Rattle.relation.specs.Rel.{nodes}
+use Rattle.models.specs.Graph.{base}
+use Rattle.recording.specs.Layout.{kind}
+use Rattle.recording.specs.Decode.{decode}
+use Rattle.recording.specs.Causes.{refusal}
+use Rattle.recording.specs.Load.{causeFor}
+use Rattle.verdict.specs.declared.Verdict.{Verdict}
+use Rattle.verdict.specs.declared.Answer.the-variants.{Allowed}
+use Rattle.verdict.specs.Answer.{refuses}
+use Rattle.verdict.specs.Shown.{events}
+use Rattle.imm.specs.Judged as imm
+use Rattle.armv8.specs.Judged as armv8
+use Rattle.translation.specs.Answer.{translation}
+use Rattle.lines.specs.Lines.{modelWord, source, chip, lineOf}
+
+-- v is the ARMv8 verdict on the translation of the source file f; it is refused as the translation is.
+pub record OnTranslation (f : List ℕ) (v : Verdict) : Type 0 where
+  pub refused : (n : ℕ) → causeFor 1 f ≡ suc n → (v .answer ≡ refuses (suc n)) × (v .len ≡ 0)
+  pub judged : causeFor 1 f ≡ 0 → armv8.Judged (base nodes (decode (translation f))) v
+
+-- The line of a verdict.
+abbrev pub lineFor : List ℕ → Verdict → List ℕ
+lineFor word v = lineOf word (v .answer) (events v)
+
+-- "Kind 1 prints a source line, then a chip line": that of its translation. Where the translation is allowed, so is the source (demand 3).
+pub record SourceLines (f text : List ℕ) : Type 0 where
+  pub on-source : Verdict
+  pub on-chip : Verdict
+  pub judged : imm.Judged (base nodes (decode f)) on-source
+  pub judged-chip : armv8.Judged (base nodes (decode (translation f))) on-chip
+  pub sound : on-chip .answer ≡ Allowed → on-source .answer ≡ Allowed
+  pub prints : text ≡ lineFor source on-source ++ lineFor chip on-chip
+
+-- "kind 2 a chip line"
+pub record ChipLine (f text : List ℕ) : Type 0 where
+  pub on-chip : Verdict
+  pub judged-chip : armv8.Judged (base nodes (decode f)) on-chip
+  pub prints : text ≡ lineFor chip on-chip
+
+-- The text is what the judge prints of the file f. Which ring is shown is free; all else is fixed.
+pub record Prints (f text : List ℕ) : Type 0 where
+  pub refused : (n : ℕ) → refusal f ≡ suc n → text ≡ lineOf chip (refuses (suc n)) []
+  pub on-source : refusal f ≡ 0 → kind f ≡ 1 → SourceLines f text
+  pub on-chip : refusal f ≡ 0 → kind f ≡ 2 → ChipLine f text
+
+-- Of a text that goes to an output, whose length is answered: where it fits it fills the start and later bytes stay,
+-- and else the answer is 0 and all bytes stay.
+pub record Stored (text out : List ℕ) (answer : ℕ) (left : List ℕ) : Type 0 where
+  pub fits : length text ≤ length out → (answer ≡ length text) × (left ≡ sets out 0 text)
+  pub short : length out < length text → (answer ≡ 0) × (left ≡ out)
+
+-- What the judge prints of the file f goes to the output.
+pub record Answers (f out : List ℕ) (answer : ℕ) (left : List ℕ) : Type 0 where
+  pub text : List ℕ
+  pub printed : Prints f text
+  pub stored : Stored text out answer left

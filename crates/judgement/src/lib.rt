@@ -1,0 +1,87 @@
+// The judgement of a file as a whole: the verdict on its translation, and the lines that the judge prints.
+
+use lines::Text;
+use recording::causes;
+use translation::Translation;
+use verdict::Answer;
+use verdict::Verdict;
+ghost use mathlib.Core.Path.{_≡_};
+ghost use mathlib.Core.List.{_++_};
+ghost use Prim.Native.Nat.{_≤_};
+ghost use Rattle.verdict.specs.Answer.{refuses};
+ghost use Rattle.lines.specs.Put.{bytes};
+ghost use Rattle.judgement.specs.Judgement.{OnTranslation, Prints, Answers};
+
+// The lines of a file; the second is empty where there is one only.
+pub struct Lines {
+    pub first: Text,
+    pub second: Text,
+}
+
+// Refused with the number k.
+fn refused(k: u8) -> Verdict
+    ensures { λ r. ⌜ (r .answer ≡ refuses k) × (r .len ≡ 0) ⌝ }
+{
+    Verdict {
+        answer: Answer::Refused(k),
+        at: [0u8; 64],
+        len: 0,
+    }
+}
+
+// The verdict on the translation of a source file, and what is shown of it. A translation has at most 1320 bytes.
+pub fn chip(file: &[u8]) -> Verdict
+    ensures { λ r. ⌜ OnTranslation (now (file .entry)) r ⌝ }
+{
+    let mut bytes = [0u8; 1320];
+    match translation::translate(file, &mut bytes) {
+        Translation::Refused(k) => refused(k),
+        Translation::Written(n) => armv8::file::verdict(&bytes[..n]),
+    }
+}
+
+// One line.
+fn single(text: Text) -> Lines
+    requires { ⌜ text .len ≤ 320 ⌝ }
+    ensures text { λ r. ⌜ bytes (r .first) ++ bytes (r .second) ≡ bytes text ⌝ }
+    ensures bounded { λ r. ⌜ (r .first .len ≤ 320) × (r .second .len ≤ 320) ⌝ }
+{
+    Lines {
+        first: text,
+        second: Text {
+            at: [0u8; 320],
+            len: 0,
+        },
+    }
+}
+
+// The lines that the judge prints of a file.
+pub fn printed(file: &[u8]) -> Lines
+    ensures prints { λ r. ⌜ Prints (now (file .entry)) (bytes (r .first) ++ bytes (r .second)) ⌝ }
+    ensures bounded { λ r. ⌜ (r .first .len ≤ 320) × (r .second .len ≤ 320) ⌝ }
+{
+    let k = causes::cause(file, 1);
+    if k == 0 {
+        let first = lines::line(false, imm::file::verdict(file));
+        let second = lines::line(true, chip(file));
+        return Lines { first, second };
+    }
+    if k == 11 {
+        return single(lines::line(true, armv8::file::verdict(file)));
+    }
+    single(lines::line(true, refused(k)))
+}
+
+// Writes the lines of a file to the start of the output and answers how many bytes they have, or 0 where the output is shorter.
+pub fn judge(file: &[u8], out: &mut [u8]) -> usize
+    ensures { λ r. ⌜ Answers (now (file .entry)) (now (out .entry)) r (now (out .exit)) ⌝ }
+{
+    let text = printed(file);
+    let first = text.first;
+    let second = text.second;
+    if out.len() < first.len + second.len {
+        return 0;
+    }
+    let n = lines::put_line(first, out, 0);
+    lines::put_line(second, out, n)
+}
