@@ -3,6 +3,7 @@ use mathlib.Core.Path.{_≡_, refl, sym, ap, ap₂, subst, _∙_}
 use mathlib.Core.List.{List, [], _∷_, _++_}
 use Prim.Native.Nat.{ℕ, zero, suc, _+_, _<_, _≤_}
 use native.Mathlib.Omega.{arith}
+use native.Mathlib.Decide.{decLt}
 use lib.ListN.{length, take, set, length-append}
 use lib.Seq.{sets, length-sets, length-take-le}
 use Rattle.relation.specs.Rel.{nodes}
@@ -125,3 +126,18 @@ module _ (f out : List ℕ) (t u : Text) (long : length (t .at) ≡ 320) (long�
           short = λ g. absurd (omega (arith, sizes));
         };
       }
+
+-- The answer counts bytes at the start of the output.
+module _ (f out : List ℕ) (n : ℕ) (left : List ℕ) (a : Answers f out n left) where
+  pub answered-within : n ≤ length left
+  answered-within =
+      elim (decLt (length out) (length (a .text))) [
+        | yes lt ↦ omega (arith, a .stored .short lt .0)
+        | no ge ↦ fitted (omega (arith, ge))
+      ]
+    where
+      fitted : length (a .text) ≤ length out → n ≤ length left
+      fitted h = let w = a .stored .fits h in omega (arith, w .0, ap length (w .1), length-sets out 0 (a .text))
+
+  pub answered-size : n ≡ length (take n left)
+  answered-size = sym (length-take-le n left answered-within)
