@@ -75,6 +75,17 @@ module _ (f : List ℕ) where
       go zero e = rw (e, cause) (rw (le-ltb room (length (translation f)) (omega (arith, translation-short e))))
       go (suc n) e = rw (e, cause)
 
+  -- Whatever the room, a translation that is written is short.
+  pub written-short : (r : Translation) (room n : ℕ) → r ≡ translationOf f room → r ≡ Written n → n ≤ 1320
+  unfolding translationOf cause
+  written-short r room n p q =
+      let (z, size) = answer-written (cause f room) (length (translation f)) n (sym p ∙ q) in
+      omega (arith, size, translation-short (go (causeFor 1 f) refl z))
+    where
+      go : (k : ℕ) → causeFor 1 f ≡ k → cause f room ≡ 0 → causeFor 1 f ≡ 0
+      go zero e z = e
+      go (suc k) e z = absurd (let y : suc k ≡ 0 = sym (rw (e, cause)) ∙ z in omega arith)
+
   -- What is written.
   pub record Whole (n : ℕ) (left : List ℕ) : Type 0 where
     pub goes-on : causeFor 1 f ≡ 0

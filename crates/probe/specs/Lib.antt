@@ -1,1 +1,2 @@
 -- The definitions that the contracts of `probe` cite.
+pub mod Coded
