@@ -1,27 +1,27 @@
 -- The translation of a source file that loads has at most 48 events and at most 232 links. Assumes nothing.
 use mathlib.Core.Path.{_≡_, refl, sym, ap, subst, _∙_}
-use mathlib.Core.Bool.{Bool, true, false, not, _&&_, _||_, false≢true}
-use mathlib.Core.List.{List, [], _∷_}
-use mathlib.Core.Logic.{_⊎_, inl, inr}
+use mathlib.Core.Bool.{true, _&&_}
+use mathlib.Core.List.{List, []}
 use Prim.Native.Nat.{ℕ, zero, suc, _+_, _-_, _*_, _/_, _%_, _<_, _≤_}
 use native.Mathlib.Omega.{arith}
-use borrow.Author.Tests.{eqb-true, not-false}
+use borrow.Author.Tests.{eqb-true}
 use lib.Dec.{eqb}
-use Rattle.relation.specs.Rel.{Set, some, nodes, count}
-use Rattle.relation.proofs.Meaning.{Mem, here, there, and-left, and-right, or-either, some-sound}
+use Rattle.relation.specs.Rel.{Set, some, count}
+use Rattle.relation.proofs.Meaning.{Mem, here, there, and-left, and-right, some-sound}
 use Rattle.models.specs.Recording.{flagged}
 use Rattle.recording.specs.Layout.{events, links, linkByte}
-use Rattle.recording.specs.Chains.{nextOf, nextEvent, nextLink, firstLink, linksInto, met, fresh, onceEach, allMet, each, among, chain}
+use Rattle.recording.specs.Chains.{nextEvent, nextLink, firstLink, linksInto, met, fresh, onceEach, allMet, among}
 use Rattle.recording.specs.Decode.{isRecorded, decode}
-use Rattle.translation.specs.Contents.{Contents, contents}
-use Rattle.translation.specs.Translate.{exclusive, strong, newEvents, after, controlled, newLink, translated}
+use Rattle.translation.specs.Contents.{contents}
+use Rattle.translation.specs.Translate.{exclusive, strong, newEvents, after, controlled, translated}
 use Rattle.translation.specs.Encode.{isLink, linksUpTo}
+use Rattle.translation.specs.Answer.{chip}
 use Rattle.translation.specs.Parts.{Source}
 use Rattle.recording.proofs.Truth.{is-true, holds}
-use Rattle.recording.proofs.Accepted.{Accepted, links-sound}
+use Rattle.recording.proofs.Accepted.{links-sound}
 use Rattle.recording.proofs.ChainFacts.{among-here, among-there, fresh-within, follow-positive, met-at, one-chain}
 use Rattle.translation.proofs.Counting.{count-inject, count-double}
-use Rattle.translation.proofs.TranslateLaws.{Flagged, flagged-is, Linked, stays, exclusively, casdep, New, new-is}
+use Rattle.translation.proofs.TranslateLaws.{Flagged, flagged-is, Linked, stays, exclusively, casdep, new-is}
 use Rattle.translation.proofs.EncodedLinks.{LinksFit}
 use Rattle.translation.proofs.SourceFacts.{accepted-source, limits, loads, says, link-source, link-target, flagged-decoded}
 
@@ -127,7 +127,7 @@ module _ (f : List ℕ) (s : Source f) where
       omega (arith, h, g)
 
   -- The links of the translation fit in records.
-  pub links-fit : LinksFit (translated (contents f))
+  pub links-fit : LinksFit (chip f)
   unfolding translated contents
   links-fit =
       record {
@@ -155,7 +155,7 @@ module _ (f : List ℕ) (s : Source f) where
         → linkByte f (suc x) 2 ≡ k % 64 → k / 64 % 8 ≡ 6 → after (contents f) e ≡ k / 512 → Origin k x
     read : x ≡ links f + (k % 64 - 1) → 1 ≤ k % 64 → k / 64 % 8 ≡ 6 → controlled (contents f) (k % 64) ≡ k / 512 → Origin k x
 
-  origin : (k : ℕ) → isLink (translated (contents f)) k ≡ true → (x : ℕ) × (x < 232) × Origin k x
+  origin : (k : ℕ) → isLink (chip f) k ≡ true → (x : ℕ) × (x < 232) × Origin k x
   unfolding isLink translated contents
   origin k h = go (new-is (contents f) (k / 64 % 8) (k % 64) (k / 512) h .from)
     where
@@ -197,5 +197,5 @@ module _ (f : List ℕ) (s : Source f) where
   origin-once j k x (casdep-record _ _ _ g _ _ _ _) (read p _ _ _) = absurd (omega arith)
   origin-once j k x (read p _ _ _) (casdep-record _ _ _ g _ _ _ _) = absurd (omega arith)
 
-  pub most-links : (e : ℕ) → linksUpTo (translated (contents f)) e ≤ 232
-  most-links e = count-inject (512 * suc e) 232 (isLink (translated (contents f))) Origin (λ k h g. origin k g) origin-once
+  pub most-links : (e : ℕ) → linksUpTo (chip f) e ≤ 232
+  most-links e = count-inject (512 * suc e) 232 (isLink (chip f)) Origin (λ k h g. origin k g) origin-once

@@ -1,13 +1,13 @@
 -- Laws of the call: what it answers and leaves where it is refused, and that the parts written make up the translation. Assumes nothing.
-use mathlib.Core.Path.{_≡_, refl, sym, ap, ap₂, subst, _∙_}
-use mathlib.Core.Bool.{Bool, true, false, false≢true}
-use mathlib.Core.List.{List, [], _∷_, _++_, append-assoc, append-nil}
+use mathlib.Core.Path.{_≡_, refl, sym, ap, ap₂, _∙_}
+use mathlib.Core.Bool.{Bool, true, false}
+use mathlib.Core.List.{List, [], _++_, append-nil}
 use Prim.Native.Nat.{ℕ, zero, suc, _+_, _-_, _*_, _<_, _≤_}
 use native.Mathlib.Omega.{arith}
 use native.Mathlib.Nat.{zero-add}
 use borrow.Author.Tests.{lt-ltb, le-ltb, eqb-true}
 use lib.Dec.{eqb, ltb}
-use lib.ListN.{length, take, drop, length-append, length-drop, drop-of-length-le}
+use lib.ListN.{length, take, drop, length-drop, drop-of-length-le}
 use lib.Seq.{take-all, drop-drop}
 use Rattle.recording.specs.Layout.{kind}
 use Rattle.recording.specs.Causes.{refusal}
@@ -15,11 +15,11 @@ use Rattle.recording.specs.Load.{causeFor}
 use Rattle.translation.specs.Contents.{contents}
 use Rattle.translation.specs.Translate.{newEvents, translated}
 use Rattle.translation.specs.Encode.{linksUpTo, header, eventRecords, linkRecords, encode}
-use Rattle.translation.specs.Answer.{translation, cause, answer, translationOf, filled, outputOf}
+use Rattle.translation.specs.Answer.{chip, translation, cause, answer, translationOf, filled, outputOf}
 use Rattle.translation.specs.Parts.{Source, placed}
 use Rattle.translation.specs.declared.Translation.{Translation}
 use Rattle.translation.specs.declared.Translation.the-variants.{Refused, Written}
-use Rattle.translation.proofs.EncodeLaws.{header-size, events-length, links-length, encode-length}
+use Rattle.translation.proofs.EncodeLaws.{header-size, events-length, encode-length}
 use Rattle.translation.proofs.OutputLaws.{placed-placed, length-placed}
 
 module _ (f : List ℕ) where
@@ -59,13 +59,13 @@ module _ (f : List ℕ) where
   refused-early (suc n) out p d = refused-by n out (cause-early n (length out) (sym p))
 
   -- The measured length is the translation's.
-  measured : (n m : ℕ) → n ≡ newEvents (contents f) → m ≡ linksUpTo (translated (contents f)) n → 8 + 8 * n + 4 * m ≡ length (translation f)
+  measured : (n m : ℕ) → n ≡ newEvents (contents f) → m ≡ linksUpTo (chip f) n → 8 + 8 * n + 4 * m ≡ length (translation f)
   unfolding translation translated
   measured n m p q =
-      let c = translated (contents f) in
+      let c = chip f in
       omega (arith, encode-length c, p, q ∙ ap (λ (x : ℕ). linksUpTo c x) p)
 
-  pub refused-short : (k n m : ℕ) (out : List ℕ) → k ≡ causeFor 1 f → k ≡ 0 → n ≡ newEvents (contents f) → m ≡ linksUpTo (translated (contents f)) n
+  pub refused-short : (k n m : ℕ) (out : List ℕ) → k ≡ causeFor 1 f → k ≡ 0 → n ≡ newEvents (contents f) → m ≡ linksUpTo (chip f) n
       → length out < 8 + 8 * n + 4 * m → Answers out (Refused 12) out
   refused-short k n m out p q u v h =
       refused-by 11 out (cause-late (length out) (sym p ∙ q) ∙ ap (λ (b : Bool). elim b as (λ _. ℕ) [ true ↦ 12 | false ↦ 0 ]) (lt-ltb (length out) (length (translation f)) (omega (arith, measured n m u v))))
@@ -89,40 +89,40 @@ part-placed d start x part h e =
     ∙ ap (_++_ x) (ap (λ (k : ℕ). drop k rest) (zero-add (length x)) ∙ drop-drop (length x) start d))
 
 -- Behind the header there is room for the events.
-header-length : (f out one : List ℕ) (n m : ℕ) → 8 + 8 * n + 4 * m ≤ length out → one ≡ placed out 0 (header (translated (contents f))) → length one ≡ length out
+header-length : (f out one : List ℕ) (n m : ℕ) → 8 + 8 * n + 4 * m ≤ length out → one ≡ placed out 0 (header (chip f)) → length one ≡ length out
 header-length f out one n m room first =
-    let c = translated (contents f) in
+    let c = chip f in
     ap length first ∙ length-placed out 0 (header c) (omega (arith, header-size c))
 
-pub events-room : (f out one : List ℕ) (n m : ℕ) → 8 + 8 * n + 4 * m ≤ length out → one ≡ placed out 0 (header (translated (contents f))) → 8 + 8 * n ≤ length one
+pub events-room : (f out one : List ℕ) (n m : ℕ) → 8 + 8 * n + 4 * m ≤ length out → one ≡ placed out 0 (header (chip f)) → 8 + 8 * n ≤ length one
 events-room f out one n m room first = omega (arith, header-length f out one n m room first)
 
 module _ (f : List ℕ) (out one two part : List ℕ) (k n m : ℕ) (p : k ≡ causeFor 1 f) (q : k ≡ 0) (u : n ≡ newEvents (contents f))
-    (v : m ≡ linksUpTo (translated (contents f)) n) (room : 8 + 8 * n + 4 * m ≤ length out)
-    (first : one ≡ placed out 0 (header (translated (contents f)))) (second : two ≡ placed one 8 (eventRecords (translated (contents f)) (suc n))) where
+    (v : m ≡ linksUpTo (chip f) n) (room : 8 + 8 * n + 4 * m ≤ length out)
+    (first : one ≡ placed out 0 (header (chip f))) (second : two ≡ placed one 8 (eventRecords (chip f) (suc n))) where
   -- The output stays as long as it was.
   sizes : (length one ≡ length out) × (length two ≡ length out)
   sizes =
-      let c = translated (contents f) in
+      let c = chip f in
       let a = header-length f out one n m room first in
       (a, ap length second ∙ length-placed one 8 (eventRecords c (suc n)) (omega (arith, events-length c n)) ∙ a)
 
-  pub links-part : 4 * linksUpTo (translated (contents f)) n ≤ length (take (length two - (8 + 8 * n)) (drop (8 + 8 * n) two))
+  pub links-part : 4 * linksUpTo (chip f) n ≤ length (take (length two - (8 + 8 * n)) (drop (8 + 8 * n) two))
   links-part =
       let rest = drop (8 + 8 * n) two in
       let size = length-drop (8 + 8 * n) two in
       omega (arith, sizes .1, v, ap length (take-all (length two - (8 + 8 * n)) rest (omega arith)))
 
-  whole : header (translated (contents f)) ++ (eventRecords (translated (contents f)) (suc n) ++ linkRecords (translated (contents f)) (512 * suc n)) ≡ translation f
+  whole : header (chip f) ++ (eventRecords (chip f) (suc n) ++ linkRecords (chip f) (512 * suc n)) ≡ translation f
   unfolding translation encode translated
   whole =
-      let c = translated (contents f) in
+      let c = chip f in
       ap (λ (x : ℕ). header c ++ (eventRecords c (suc x) ++ linkRecords c (512 * suc x))) u
 
-  placed-whole : placed two (8 + 8 * n) (linkRecords (translated (contents f)) (512 * suc n)) ≡ translation f ++ drop (length (translation f)) out
+  placed-whole : placed two (8 + 8 * n) (linkRecords (chip f) (512 * suc n)) ≡ translation f ++ drop (length (translation f)) out
   unfolding placed
   placed-whole =
-      let c = translated (contents f) in
+      let c = chip f in
       let ev = eventRecords c (suc n) in
       let ln = linkRecords c (512 * suc n) in
       ap (λ (d : List ℕ). placed d (8 + 8 * n) ln) second
@@ -135,9 +135,9 @@ module _ (f : List ℕ) (out one two part : List ℕ) (k n m : ℕ) (p : k ≡ c
       cause-late f (length out) (sym p ∙ q)
       ∙ ap (λ (b : Bool). elim b as (λ _. ℕ) [ true ↦ 12 | false ↦ 0 ]) (le-ltb (length out) (length (translation f)) (omega (arith, measured f n m u v)))
 
-  pub all-written : part ≡ placed (take (length two - (8 + 8 * n)) (drop (8 + 8 * n) two)) 0 (linkRecords (translated (contents f)) (512 * suc n))
+  pub all-written : part ≡ placed (take (length two - (8 + 8 * n)) (drop (8 + 8 * n) two)) 0 (linkRecords (chip f) (512 * suc n))
       → Answers f out (Written (8 + 8 * n + 4 * m)) (take (8 + 8 * n) two ++ (part ++ drop (length two - (8 + 8 * n)) (drop (8 + 8 * n) two)))
   all-written third =
       let done = written-by f out (8 + 8 * n + 4 * m) fits (measured f n m u v) in
-      let made = part-placed two (8 + 8 * n) (linkRecords (translated (contents f)) (512 * suc n)) part (omega (arith, sizes .1)) third in
+      let made = part-placed two (8 + 8 * n) (linkRecords (chip f) (512 * suc n)) part (omega (arith, sizes .1)) third in
       record { answer = done .answer; output = made ∙ placed-whole ∙ done .output }

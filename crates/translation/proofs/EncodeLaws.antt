@@ -1,14 +1,14 @@
 -- Laws of an encoded file: its length, its header, and the bytes of each record. Assumes nothing.
-use mathlib.Core.Path.{_≡_, refl, sym, ap, _∙_}
-use mathlib.Core.Bool.{Bool, true, false}
-use mathlib.Core.List.{List, [], _∷_, _++_}
+use mathlib.Core.Path.{_≡_, refl, ap, _∙_}
+use mathlib.Core.Bool.{true}
+use mathlib.Core.List.{_++_}
 use Prim.Native.Nat.{ℕ, zero, suc, _+_, _-_, _*_, _<_, _≤_}
 use native.Mathlib.Omega.{arith}
 use borrow.Author.Tests.{le-leb}
 use lib.Dec.{leb}
 use lib.ListN.{length, getD, length-append, List·getD-append}
 use lib.Seq.{getD-append-add}
-use Rattle.relation.specs.Rel.{Set, count}
+use Rattle.relation.specs.Rel.{count}
 use Rattle.recording.specs.Layout.{kind, events, locations, links, linkStart, fullLength, eventByte, linkByte}
 use Rattle.recording.specs.Chains.{head, startOf}
 use Rattle.translation.specs.Contents.{Contents}

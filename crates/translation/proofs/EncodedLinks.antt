@@ -1,25 +1,24 @@
 -- The links of an encoded file: each event's chain is a run of numbers, every link stands on one chain, and the links that
 -- the file holds are those that were written. Assumes nothing.
 use mathlib.Core.Path.{_≡_, refl, sym, ap, subst, _∙_}
-use mathlib.Core.Bool.{Bool, true, false, _&&_, false≢true}
-use mathlib.Core.List.{List, [], _∷_, _++_}
-use mathlib.Core.Logic.{_⊎_, inl, inr}
+use mathlib.Core.Bool.{Bool, true, false, _&&_}
+use mathlib.Core.List.{List, _++_}
 use Prim.Native.Nat.{ℕ, zero, suc, _+_, _-_, _*_, _/_, _%_, _<_, _≤_}
 use native.Mathlib.Omega.{arith}
 use native.Mathlib.Nat.{add-zero}
-use native.Mathlib.Decide.{ℕ-discrete, decLt}
+use native.Mathlib.Decide.{decLt}
 use borrow.Author.Tests.{eqb-true, eq-eqb}
 use lib.Dec.{eqb}
-use lib.ListN.{length, getD}
+use lib.ListN.{getD}
 use Rattle.relation.specs.Rel.{Set, count, some}
 use Rattle.relation.proofs.Meaning.{and-both, and-left, and-right}
-use Rattle.recording.specs.Layout.{events, links, linkStart, eventByte, linkByte}
+use Rattle.recording.specs.Layout.{events, links, linkStart, linkByte}
 use Rattle.recording.specs.Chains.{nextOf, startOf, nextLink, firstLink, linksInto, chain, follow, met, linksSound, onceEach}
 use Rattle.recording.specs.Decode.{isRecorded, decode}
 use Rattle.recording.proofs.FieldLaws.{recorded-bounds, recorded-is}
 use Rattle.translation.specs.Contents.{Contents}
 use Rattle.translation.specs.Encode.{chained, isLink, linksBefore, linksUpTo, eventRecord, linkRecord, encode}
-use Rattle.translation.proofs.Counting.{Member, select, count-mono, count-lt, count-none, count-yes}
+use Rattle.translation.proofs.Counting.{select, count-mono, count-lt, count-none}
 use Rattle.translation.proofs.EncodeLaws.{encode-events, encode-links, encode-event, encode-link}
 use Rattle.translation.proofs.Runs.{run, run-append, run-some, run-member, run-once, follow-run}
 

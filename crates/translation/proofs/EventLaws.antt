@@ -1,25 +1,25 @@
 -- Laws of the functions over events: each answers what its definition says. Assumes nothing.
-use mathlib.Core.Path.{_≡_, refl, sym, ap, ap₂, subst, _∙_}
-use mathlib.Core.Bool.{Bool, true, false, _&&_, false≢true}
-use mathlib.Core.List.{List, []}
-use Prim.Native.Nat.{ℕ, zero, suc, _+_, _-_, _*_, _<_, _≤_}
+use mathlib.Core.Path.{_≡_, refl, sym, ap, ap₂, _∙_}
+use mathlib.Core.Bool.{Bool, true, false, _&&_}
+use mathlib.Core.List.{List}
+use Prim.Native.Nat.{ℕ, suc, _+_, _<_, _≤_}
 use native.Mathlib.Numerals.{add-one}
 use native.Mathlib.Omega.{arith}
 use borrow.Author.Count.{below-more}
 use lib.Dec.{eqb}
-use Rattle.relation.specs.Rel.{Set, count, least}
+use Rattle.relation.specs.Rel.{count}
 use Rattle.relation.proofs.SetLaws.{count-yes, count-no, least-at, least-none}
 use Rattle.models.specs.Recording as recording
 use Rattle.recording.specs.Layout.{events, eventByte}
 use Rattle.recording.specs.Decode.{decode}
 use Rattle.recording.proofs.FieldLaws.{and-yes, and-no}
 use Rattle.recording.proofs.LegalLaws.{next-first}
-use Rattle.translation.specs.Contents.{Contents, contents}
-use Rattle.translation.specs.Translate.{strong, inserted, newEvents, fenced, after, keptOr, newMode, newFlag, translated}
+use Rattle.translation.specs.Contents.{contents}
+use Rattle.translation.specs.Translate.{strong, inserted, newEvents, fenced, after, keptOr, newMode, newFlag}
 use Rattle.translation.specs.Parts.{Source, NewEvent}
 use Rattle.translation.proofs.TranslateLaws as law
-use Rattle.translation.proofs.TranslateLaws.{Flagged, flagged-is}
-use Rattle.translation.proofs.SourceFacts.{sized, limits, few-events, next-within, flagged-decoded}
+use Rattle.translation.proofs.TranslateLaws.{flagged-is}
+use Rattle.translation.proofs.SourceFacts.{limits, few-events, next-within, flagged-decoded}
 use Rattle.translation.proofs.Bounds.{most-events}
 
 -- The strong writes below w are counted.

@@ -1,7 +1,7 @@
 -- The table of classes, modes and flags: what a legal event of a source recording says, and that its translation is legal in a chip
 -- recording. Assumes nothing.
 use mathlib.Core.Path.{_≡_, refl, sym, ap, _∙_}
-use mathlib.Core.Bool.{Bool, true, false, _&&_, _||_, false≢true}
+use mathlib.Core.Bool.{Bool, true, _&&_, _||_, false≢true}
 use mathlib.Core.List.{List}
 use mathlib.Core.Logic.{_⊎_, inl, inr}
 use Prim.Native.Nat.{ℕ, zero, suc, _+_, _*_, _<_, _≤_}
@@ -12,12 +12,12 @@ use lib.Dec.{eqb, leb, ltb}
 use Rattle.relation.proofs.Meaning.{and-left, and-right, and-both, or-either}
 use Rattle.recording.specs.Layout.{isSource, kind, locations}
 use Rattle.recording.specs.Decode.{decode}
-use Rattle.recording.specs.Causes.{readLegal, writeLegal, fenceMode, fenceLegal, legal, eventLegal}
+use Rattle.recording.specs.Causes.{writeLegal, fenceMode, fenceLegal, legal, eventLegal}
 use Rattle.translation.specs.Contents.{Contents}
-use Rattle.translation.specs.Translate.{strong, newEvents, keptOr, newMode, newFlag, translated}
+use Rattle.translation.specs.Translate.{strong, newMode, newFlag, translated}
 use Rattle.recording.proofs.Truth.{is-false}
 use Rattle.translation.proofs.TranslateLaws as law
-use Rattle.translation.proofs.TranslateLaws.{Flagged, flagged-is}
+use Rattle.translation.proofs.TranslateLaws.{flagged-is}
 use Rattle.translation.proofs.Says.{Says}
 
 -- What the table asks of event e, said of contents.

@@ -1,21 +1,19 @@
 -- A recording that has what loading ensures passes the tests of its links: their conditions, one source per read, no ring of co. Assumes nothing.
-use mathlib.Core.Path.{_≡_, refl, sym, ap, subst, _∙_}
-use mathlib.Core.Bool.{Bool, true, false, not, _&&_, _||_, false≢true}
-use mathlib.Core.List.{List, [], _∷_}
-use mathlib.Core.Logic.{_⊎_, inl, inr}
+use mathlib.Core.Path.{_≡_, sym, ap, subst, _∙_}
+use mathlib.Core.Bool.{true, false, not, _&&_, false≢true}
+use mathlib.Core.Logic.{inl, inr}
 use Prim.Native.Nat.{ℕ, zero, suc, _<_, _≤_}
 use native.Mathlib.Omega.{arith}
-use native.Mathlib.Decide.{ℕ-discrete}
-use borrow.Author.Tests.{eq-eqb, ne-eqb, eqb-true}
+use borrow.Author.Tests.{eq-eqb, ne-eqb}
 use lib.Dec.{T, eqb}
-use Rattle.relation.specs.Rel.{Set, some, diagonal, nodes, below}
+use Rattle.relation.specs.Rel.{some, diagonal, nodes}
 use Rattle.relation.proofs.Meaning.{and-left, and-right, and-both, some-sound}
 use Rattle.models.specs.Recording.{Recording, event, ofClass, flagged, access, coStep}
 use Rattle.models.specs.Steps.{Plus, one, cons}
 use Rattle.models.specs.Graph.{graph, base, Within}
 use Rattle.models.specs.Loads.{Loads}
 use Rattle.models.proofs.Tests.{plus-steps, below-listed}
-use Rattle.models.proofs.Sets.{recorded-event, initial-event, event-cases, class-event, flag-class, access-event, step-intro, linked}
+use Rattle.models.proofs.Sets.{recorded-event, class-event, flag-class, access-event, step-intro, linked}
 use Rattle.models.proofs.Agree.{agrees}
 use Rattle.recording.specs.Causes.{sameLocations, rfLegal, coLegal, rmwLegal, fromRead, dataLegal, addrLegal, ctrlLegal, linkLegal, oneSource}
 use Rattle.recording.proofs.Truth.{is-true, holds, is-false}

@@ -18,3 +18,4 @@ pub mod EventLaws
 pub mod LinkRows
 pub mod WriteLaws
 pub mod CallLaws
+pub mod Theorems

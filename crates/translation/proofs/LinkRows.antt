@@ -1,12 +1,12 @@
 -- Laws of the functions over links: the rows of their sources, and how many there are. Assumes nothing.
-use mathlib.Core.Path.{_≡_, refl, sym, ap, ap₂, subst, _∙_, fun-ext}
-use mathlib.Core.Bool.{Bool, true, false, _&&_, _||_, false≢true}
-use mathlib.Core.List.{List, []}
+use mathlib.Core.Path.{_≡_, refl, sym, ap, ap₂, _∙_, fun-ext}
+use mathlib.Core.Bool.{Bool, true, false, _&&_, _||_}
+use mathlib.Core.List.{List}
 use mathlib.Core.Logic.{_⊎_, inl, inr}
-use Prim.Native.Nat.{ℕ, zero, suc, _+_, _-_, _*_, _<_, _≤_}
+use Prim.Native.Nat.{ℕ, suc, _+_, _*_, _<_, _≤_}
 use native.Mathlib.Numerals.{add-one}
 use native.Mathlib.Omega.{arith}
-use borrow.Author.Tests.{le-leb, lt-leb, ne-eqb, eq-eqb}
+use borrow.Author.Tests.{le-leb, lt-leb, ne-eqb}
 use lib.Dec.{eqb, leb}
 use Rattle.relation.specs.Rel.{Set, Rel, empty, single, union, intersection, either, inverse, some, image, chain, count, nodes}
 use Rattle.relation.proofs.Meaning.{and-left, and-right}
@@ -16,18 +16,18 @@ use Rattle.recording.specs.Layout.{events, eventByte}
 use Rattle.recording.specs.Decode.{isRecorded, decode}
 use Rattle.recording.specs.Causes.{Readable}
 use Rattle.recording.proofs.Truth.{is-false}
-use Rattle.recording.proofs.FieldLaws.{recorded-bounds}
 use Rattle.recording.proofs.LegalLaws.{next-first}
 use Rattle.recording.proofs.Loaded.{loaded-readable}
 use Rattle.translation.specs.Contents.{Contents, contents}
 use Rattle.translation.specs.Translate.{flagged, exclusive, newEvents, after, follows, controlled, fromExclusive, fromCasdep, newLink, translated}
 use Rattle.translation.specs.Encode.{isLink, linksBefore, linksUpTo}
-use Rattle.translation.specs.Parts.{Source, NewEvent, targets, ctrlInto}
+use Rattle.translation.specs.Answer.{chip}
+use Rattle.translation.specs.Parts.{Source, NewEvent, Ready, targets, ctrlInto}
 use Rattle.translation.proofs.Counting.{count-add, count-same, count-mono}
 use Rattle.translation.proofs.TranslateLaws as law
-use Rattle.translation.proofs.TranslateLaws.{Flagged, flagged-is}
+use Rattle.translation.proofs.TranslateLaws.{flagged-is}
 use Rattle.translation.proofs.EncodedLinks.{link-number, none-into-zero}
-use Rattle.translation.proofs.SourceFacts.{accepted-source, sized, limits, link-target, flagged-decoded}
+use Rattle.translation.proofs.SourceFacts.{limits, link-target, flagged-decoded}
 use Rattle.translation.proofs.Bounds.{links-fit, most-links}
 
 -- A row of at most one number.
@@ -175,57 +175,54 @@ count-row s b t row h e =
 
 -- The links into smaller events and, of those into b, of types below t, are counted.
 pub record LinksCounted (f : List ℕ) (g : Rel) (b t m : ℕ) : Type 0 where
-  pub source : Source f
+  pub ready : Ready f g
   pub event : NewEvent (contents f) b
-  pub grid : g ≡ ctrlInto (contents f)
-  pub same : m ≡ linksBefore (translated (contents f)) (512 * b + 64 * t)
+  pub same : m ≡ linksBefore (chip f) (512 * b + 64 * t)
 
 module _ (f : List ℕ) (g : Rel) (b : ℕ) where
-  pub links-start : Source f → NewEvent (contents f) b → g ≡ ctrlInto (contents f) → (n : ℕ) → n ≡ linksBefore (translated (contents f)) (512 * b) → LinksCounted f g b 0 n
-  links-start s e c n p =
+  pub links-start : Ready f g → NewEvent (contents f) b → (n : ℕ) → n ≡ linksBefore (chip f) (512 * b) → LinksCounted f g b 0 n
+  links-start r e n p =
       let place : 512 * b ≡ 512 * b + 64 * 0 = omega arith in
-      record { source = s; event = e; grid = c; same = p ∙ ap (λ (x : ℕ). linksBefore (translated (contents f)) x) place }
+      record { ready = r; event = e; same = p ∙ ap (λ (x : ℕ). linksBefore (chip f) x) place }
 
   pub links-more : (t m x : ℕ) (row : Set) → LinksCounted f g b t m → t < 8 → row ≡ inverse (newLink (contents f) t) b → x ≡ count 64 row → LinksCounted f g b (t + 1) (m + x)
   links-more t m x row w h e p =
-      record { source = w .source; event = w .event; grid = w .grid; same = ap₂ _+_ (w .same) p ∙ sym (count-row (contents f) b t row h e) }
+      record { ready = w .ready; event = w .event; same = ap₂ _+_ (w .same) p ∙ sym (count-row (contents f) b t row h e) }
 
   -- They are few.
   pub links-few : (t m : ℕ) → LinksCounted f g b t m → t ≤ 8 → m ≤ 232
   links-few t m w h =
-      omega (arith, w .same, count-mono (512 * b + 64 * t) (512 * suc b) (isLink (translated (contents f))) (omega arith), most-links f (w .source) b)
+      omega (arith, w .same, count-mono (512 * b + 64 * t) (512 * suc b) (isLink (chip f)) (omega arith), most-links f (w .ready .source) b)
 
-  pub links-all : (t m : ℕ) → LinksCounted f g b t m → t ≡ 8 → (m ≡ linksUpTo (translated (contents f)) b) × (m ≤ 232)
+  pub links-all : (t m : ℕ) → LinksCounted f g b t m → t ≡ 8 → (m ≡ linksUpTo (chip f) b) × (m ≤ 232)
   links-all t m w e =
       let place : 512 * b + 64 * t ≡ 512 * suc b = omega arith in
-      (w .same ∙ ap (λ (x : ℕ). linksBefore (translated (contents f)) x) place, links-few t m w (omega arith))
+      (w .same ∙ ap (λ (x : ℕ). linksBefore (chip f) x) place, links-few t m w (omega arith))
 
 -- The links into events below b are counted.
 pub record EventsCounted (f : List ℕ) (g : Rel) (n b m : ℕ) : Type 0 where
-  pub source : Source f
+  pub ready : Ready f g
   pub events : n ≡ newEvents (contents f)
-  pub grid : g ≡ ctrlInto (contents f)
   pub low : 1 ≤ b
-  pub same : m ≡ linksBefore (translated (contents f)) (512 * b)
+  pub same : m ≡ linksBefore (chip f) (512 * b)
 
 module _ (f : List ℕ) (g : Rel) (n : ℕ) where
-  pub events-start : Source f → n ≡ newEvents (contents f) → g ≡ ctrlInto (contents f) → EventsCounted f g n 1 0
-  events-start s e c = record { source = s; events = e; grid = c; low = omega arith; same = sym (none-into-zero (translated (contents f)) (links-fit f s)) }
+  pub events-start : Ready f g → n ≡ newEvents (contents f) → EventsCounted f g n 1 0
+  events-start r e = record { ready = r; events = e; low = omega arith; same = sym (none-into-zero (chip f) (links-fit f (r .source))) }
 
   pub event-counted : (b m : ℕ) → EventsCounted f g n b m → b ≤ n → NewEvent (contents f) b
   event-counted b m w h = record { low = w .low; high = omega (arith, w .events) }
 
-  pub events-more : (b m x : ℕ) → EventsCounted f g n b m → x ≡ linksUpTo (translated (contents f)) b → EventsCounted f g n (b + 1) x
+  pub events-more : (b m x : ℕ) → EventsCounted f g n b m → x ≡ linksUpTo (chip f) b → EventsCounted f g n (b + 1) x
   events-more b m x w e =
       record {
-        source = w .source;
+        ready = w .ready;
         events = w .events;
-        grid = w .grid;
         low = omega arith;
-        same = e ∙ ap (λ (y : ℕ). linksBefore (translated (contents f)) (512 * y)) (sym (add-one b));
+        same = e ∙ ap (λ (y : ℕ). linksBefore (chip f) (512 * y)) (sym (add-one b));
       }
 
-  pub events-all : (b m : ℕ) → EventsCounted f g n b m → n + 1 ≡ b → (m ≡ linksUpTo (translated (contents f)) n) × (m ≤ 232)
+  pub events-all : (b m : ℕ) → EventsCounted f g n b m → n + 1 ≡ b → (m ≡ linksUpTo (chip f) n) × (m ≤ 232)
   events-all b m w e =
-      let same = w .same ∙ ap (λ (y : ℕ). linksBefore (translated (contents f)) (512 * y)) (sym e ∙ add-one n) in
-      (same, omega (arith, same, most-links f (w .source) n))
+      let same = w .same ∙ ap (λ (y : ℕ). linksBefore (chip f) (512 * y)) (sym e ∙ add-one n) in
+      (same, omega (arith, same, most-links f (w .ready .source) n))

@@ -1,39 +1,39 @@
 -- Every translation of a source file that loads, loads, and is related to the source as `models` asks. Assumes nothing.
-use mathlib.Core.Path.{_≡_, refl, sym, ap, subst, _∙_}
-use mathlib.Core.Bool.{Bool, true, false, not, _&&_, _||_, false≢true}
-use mathlib.Core.List.{List, [], _∷_, _++_}
-use mathlib.Core.Logic.{_⊎_, inl, inr}
-use Prim.Native.Nat.{ℕ, zero, suc, _+_, _-_, _*_, _<_, _≤_}
+use mathlib.Core.Path.{_≡_, refl, sym, ap, _∙_}
+use mathlib.Core.Bool.{true, false, not, _&&_, false≢true}
+use mathlib.Core.List.{List, _∷_, _++_}
+use mathlib.Core.Logic.{inl, inr}
+use Prim.Native.Nat.{ℕ, zero, suc, _+_, _*_, _<_, _≤_}
 use native.Mathlib.Omega.{arith}
 use native.Mathlib.Decide.{ℕ-discrete, decLe}
-use borrow.Author.Tests.{eq-eqb, ne-eqb, eqb-true, le-ltb, le-leb}
-use lib.Dec.{T, eqb, leb, ltb}
-use lib.ListN.{length, getD}
+use borrow.Author.Tests.{eq-eqb, eqb-true, le-ltb}
+use lib.Dec.{T, eqb}
+use lib.ListN.{length}
 use Rattle.relation.specs.Rel.{nodes, inverse, some}
-use Rattle.relation.proofs.Meaning.{and-left, and-right, and-both, or-left}
+use Rattle.relation.proofs.Meaning.{and-right, and-both, or-left}
 use Rattle.models.specs.Recording.{Recording, event, read, write, strongWrite}
 use Rattle.models.specs.Loads.{Loads}
 use Rattle.models.specs.Translated.{Translated}
 use Rattle.models.proofs.FromTranslated.{translation-loads}
 use Rattle.models.proofs.Sets.{class-event}
-use Rattle.recording.specs.Layout.{kind, events, locations, links, threads, isSource, kindKnown, mostEvents, mostLinks, fullLength, linkByte}
-use Rattle.recording.specs.Chains.{nextEvent, head, follow, chain, met, onceEach, each, linksInto}
+use Rattle.recording.specs.Layout.{kind, events, locations, threads, isSource, kindKnown, mostEvents, mostLinks, fullLength, linkByte}
+use Rattle.recording.specs.Chains.{nextEvent, head, follow, chain, met, onceEach, linksInto}
 use Rattle.recording.specs.Decode.{decode}
 use Rattle.recording.specs.Causes.{eventLegal, legal, linkLegal, linkSound, oneSource, linksSoundAt, pairedAt, headerOver, allOf, rfLegal, sameLocations, tooShort, kindUnknown, overLimit, wrongLength, badEvent, badThreads, badChains, badLink, coRing, unpaired, refusal}
-use Rattle.recording.proofs.ChainLaws.{follow-end, follow-in, follow-over}
+use Rattle.recording.proofs.ChainLaws.{follow-in, follow-over}
 use Rattle.translation.specs.Contents.{Contents, contents}
-use Rattle.translation.specs.Translate.{strong, newEvents, after, newFlag, newLink, translated}
+use Rattle.translation.specs.Translate.{strong, newEvents, after, newFlag, translated}
 use Rattle.translation.specs.Encode.{linksBefore, linksUpTo, linkRecord, encode}
-use Rattle.translation.specs.Answer.{translation}
+use Rattle.translation.specs.Answer.{chip, translation}
 use Rattle.translation.specs.Parts.{Source}
 use Rattle.recording.proofs.Truth.{is-true, holds, is-false, by-test}
 use Rattle.recording.proofs.Accepted.{Accepted, accepts, each-all, legal-event, threads-sound}
 use Rattle.translation.proofs.EncodeLaws.{encode-length, encode-full, encode-kind, encode-events, encode-locations, encode-links, encode-head}
-use Rattle.translation.proofs.Runs.{run, run-all}
-use Rattle.translation.proofs.EncodedLinks.{LinksFit, Numbered, numbered, link-byte, linksAt, links-at, links-within, links-into, links-sound, on-chain, encoded-link}
+use Rattle.translation.proofs.Runs.{run-all}
+use Rattle.translation.proofs.EncodedLinks.{numbered, link-byte, linksAt, links-at, links-within, links-into, links-sound, on-chain, encoded-link}
 use Rattle.translation.proofs.Woven.{woven-once}
 use Rattle.translation.proofs.TranslateLaws as law
-use Rattle.translation.proofs.TranslateLaws.{flagged-is, Linked, stays, exclusively, casdep, New, new-is}
+use Rattle.translation.proofs.TranslateLaws.{flagged-is, Linked, stays, exclusively, casdep, new-is}
 use Rattle.translation.proofs.Says.{Says, Event, initially, recorded, event-says, flagged-says, encode-says, encode-next}
 use Rattle.translation.proofs.SourceFacts as source
 use Rattle.translation.proofs.Bounds.{most-events, most-links, links-fit}
@@ -76,14 +76,11 @@ module _ (f : List ℕ) (s : Source f) where
   abbrev old : Contents
   old = contents f
 
-  abbrev chip : Contents
-  chip = translated (contents f)
-
   abbrev S : Recording ℕ
   S = decode f
 
   abbrev C : Recording ℕ
-  C = decode (encode chip)
+  C = decode (encode (chip f))
 
   old-says : Says S old
   old-says = source.says f s
@@ -91,9 +88,9 @@ module _ (f : List ℕ) (s : Source f) where
   chip-few : newEvents old < 56
   chip-few = omega (arith, most-events f s)
 
-  chip-says : Says C chip
+  chip-says : Says C (chip f)
   unfolding translated
-  chip-says = encode-says chip (links-fit f s) chip-few
+  chip-says = encode-says (chip f) (links-fit f s) chip-few
 
   old-legal : (e : ℕ) → 1 ≤ e → e ≤ old .events → legalAt 1 (locations f) old e ≡ true
   unfolding contents
@@ -118,62 +115,62 @@ module _ (f : List ℕ) (s : Source f) where
   chip-loads = translation-loads S C l translated-relates
 
   -- Causes 1 to 4: the header and the length.
-  few-links : linksUpTo chip (chip .events) ≤ 255
-  few-links = omega (arith, most-links f s (chip .events))
+  few-links : linksUpTo (chip f) ((chip f) .events) ≤ 255
+  few-links = omega (arith, most-links f s ((chip f) .events))
 
-  long-enough : tooShort (encode chip) ≡ false
+  long-enough : tooShort (encode (chip f)) ≡ false
   unfolding tooShort
-  long-enough = le-ltb (length (encode chip)) 8 (omega (arith, encode-length chip))
+  long-enough = le-ltb (length (encode (chip f))) 8 (omega (arith, encode-length (chip f)))
 
-  kind-known : kindUnknown (encode chip) ≡ false
+  kind-known : kindUnknown (encode (chip f)) ≡ false
   unfolding kindUnknown kindKnown translated
-  kind-known = ap (λ (k : ℕ). not (kindKnown k)) (encode-kind chip)
+  kind-known = ap (λ (k : ℕ). not (kindKnown k)) (encode-kind (chip f))
 
-  within-limits : overLimit (encode chip) ≡ false
+  within-limits : overLimit (encode (chip f)) ≡ false
   unfolding overLimit headerOver mostEvents mostLinks isSource translated contents
   within-limits =
       rw (
-        encode-kind chip,
-        encode-events chip,
-        encode-locations chip,
-        encode-links chip,
+        encode-kind (chip f),
+        encode-events (chip f),
+        encode-locations (chip f),
+        encode-links (chip f),
         le-ltb 48 (newEvents old) (most-events f s),
         le-ltb 8 (locations f) (source.limits f s .1),
-        le-ltb 255 (linksUpTo chip (newEvents old)) few-links,
+        le-ltb 255 (linksUpTo (chip f) (newEvents old)) few-links,
       )
 
-  right-length : wrongLength (encode chip) ≡ false
+  right-length : wrongLength (encode (chip f)) ≡ false
   unfolding wrongLength
-  right-length = ap not (eq-eqb (length (encode chip)) (fullLength (encode chip)) (encode-full chip))
+  right-length = ap not (eq-eqb (length (encode (chip f))) (fullLength (encode (chip f))) (encode-full (chip f)))
 
   -- 5: the events.
-  events-legal : badEvent (encode chip) ≡ false
+  events-legal : badEvent (encode (chip f)) ≡ false
   unfolding badEvent translated contents
-  events-legal = ap not (each-all (events (encode chip)) (eventLegal (encode chip)) (λ e h g.
-      legal-says (encode chip) chip chip-says e h (omega (arith, g, encode-events chip))
-      ∙ ap (λ (k : ℕ). legalAt k (locations (encode chip)) chip e) (encode-kind chip) ∙ ap (λ (k : ℕ). legalAt 2 k chip e) (encode-locations chip)
+  events-legal = ap not (each-all (events (encode (chip f))) (eventLegal (encode (chip f))) (λ e h g.
+      legal-says (encode (chip f)) (chip f) chip-says e h (omega (arith, g, encode-events (chip f)))
+      ∙ ap (λ (k : ℕ). legalAt k (locations (encode (chip f))) (chip f) e) (encode-kind (chip f)) ∙ ap (λ (k : ℕ). legalAt 2 k (chip f) e) (encode-locations (chip f))
       ∙ legal-new (locations f) old old-legal e h))
 
   -- 6: the threads.
-  threads-fine : badThreads (encode chip) ≡ false
+  threads-fine : badThreads (encode (chip f)) ≡ false
   unfolding badThreads translated contents
   threads-fine =
-      ap (λ (n : ℕ). not (onceEach n (met n (nextEvent (encode chip)) (head (encode chip)) threads))) (encode-events chip)
+      ap (λ (n : ℕ). not (onceEach n (met n (nextEvent (encode (chip f))) (head (encode (chip f))) threads))) (encode-events (chip f))
       ∙ ap (λ (m : List ℕ). not (onceEach (newEvents old) m))
-      (met-same (newEvents old) (nextEvent (encode chip)) (after old) (encode-next chip) (head (encode chip)) (head f) threads (encode-head chip))
+      (met-same (newEvents old) (nextEvent (encode (chip f))) (after old) (encode-next (chip f)) (head (encode (chip f))) (head f) threads (encode-head (chip f)))
       ∙ ap not (woven-once (old .events) (newEvents old) (old .next) (after old) (strong old) _ (law.weaves old (source.few-events f s)) (head f) threads (threads-sound f (source.accepted-source f s)))
 
   -- 7: the link chains.
-  chains-fine : badChains (encode chip) ≡ false
+  chains-fine : badChains (encode (chip f)) ≡ false
   unfolding badChains
-  chains-fine = ap not (links-sound chip (links-fit f s))
+  chains-fine = ap not (links-sound (chip f) (links-fit f s))
 
   -- 8: the links.
   small : (e : ℕ) → T (event C e) → e < 64
   unfolding translated contents
-  small e h = go (event-says C chip chip-says e h)
+  small e h = go (event-says C (chip f) chip-says e h)
     where
-      go : Event C chip chip-says e → e < 64
+      go : Event C (chip f) chip-says e → e < 64
       go (initially i g) = omega (arith, source.limits f s .1)
       go (recorded i g) = omega (arith, chip-few)
 
@@ -193,7 +190,7 @@ module _ (f : List ℕ) (s : Source f) where
       go : Event S old old-says e → C .value e ≡ S .value e
       go (initially i _) = chip-says .initial-value e i ∙ sym (old-says .initial-value e i)
       go (recorded i g) =
-          chip-says .value e i (omega (arith, law.more-events old)) ∙ ap (λ (x : ℕ). x + 256 * chip .high e) (law.kept old (old .low) 0 e g)
+          chip-says .value e i (omega (arith, law.more-events old)) ∙ ap (λ (x : ℕ). x + 256 * (chip f) .high e) (law.kept old (old .low) 0 e g)
           ∙ ap (λ (x : ℕ). old .low e + 256 * x) (law.kept old (old .high) 0 e g) ∙ sym (old-says .value e i g)
 
   values : (a b : ℕ) → T (C .link 1 a b) → C .value a ≡ C .value b
@@ -202,41 +199,41 @@ module _ (f : List ℕ) (s : Source f) where
       let w = l .rf a b (holds (S .link 1 a b) e) in
       same-value a (class-event S 2 a (w .0)) ∙ legal-values S (kind f) a b (source.legal f s 1 a b e) ∙ sym (same-value b (class-event S 1 b (w .1)))
 
-  link-sound : (b m : ℕ) → b ≤ chip .events → linksBefore chip (512 * b) < m → m ≤ linksUpTo chip b → linkSound (encode chip) b m ≡ true
+  link-sound : (b m : ℕ) → b ≤ (chip f) .events → linksBefore (chip f) (512 * b) < m → m ≤ linksUpTo (chip f) b → linkSound (encode (chip f)) b m ≡ true
   unfolding linkSound linkRecord
   link-sound b m g h k =
       let fit = links-fit f s in
-      let t = linkByte (encode chip) m 1 in
-      let a = linkByte (encode chip) m 2 in
-      let w = numbered chip fit m (omega arith) (omega (arith, links-within chip fit b g)) in
-      let is = encoded-link chip fit t a b ∙ on-chain chip fit b m t a g h k refl refl in
-      and-both (linkLegal C (kind (encode chip)) t a b) (eqb (linkByte (encode chip) m 3) 0)
-      (legality.legal-link C chip-loads small types values (kind (encode chip)) t a b is)
-      (eq-eqb (linkByte (encode chip) m 3) 0 (link-byte chip fit m 3 w (omega arith)))
+      let t = linkByte (encode (chip f)) m 1 in
+      let a = linkByte (encode (chip f)) m 2 in
+      let w = numbered (chip f) fit m (omega arith) (omega (arith, links-within (chip f) fit b g)) in
+      let is = encoded-link (chip f) fit t a b ∙ on-chain (chip f) fit b m t a g h k refl refl in
+      and-both (linkLegal C (kind (encode (chip f))) t a b) (eqb (linkByte (encode (chip f)) m 3) 0)
+      (legality.legal-link C chip-loads small types values (kind (encode (chip f))) t a b is)
+      (eq-eqb (linkByte (encode (chip f)) m 3) 0 (link-byte (chip f) fit m 3 w (omega arith)))
 
-  links-fine : badLink (encode chip) ≡ false
+  links-fine : badLink (encode (chip f)) ≡ false
   unfolding badLink linksSoundAt
-  links-fine = ap not (each-all (events (encode chip)) (linksSoundAt (encode chip)) (λ b h g.
+  links-fine = ap not (each-all (events (encode (chip f))) (linksSoundAt (encode (chip f))) (λ b h g.
       let fit = links-fit f s in
-      let n : b ≤ chip .events = omega (arith, g, encode-events chip) in
-      and-both (allOf (linksInto (encode chip) b) (linkSound (encode chip) b)) (oneSource C b)
-      (ap (λ (k : List ℕ). allOf k (linkSound (encode chip) b)) (links-into chip fit b h n)
-      ∙ run-all (linksBefore chip (512 * b)) (linksAt chip fit b) (linkSound (encode chip) b) (λ m p q. link-sound b m n p (omega (arith, q, links-at chip fit b))))
+      let n : b ≤ (chip f) .events = omega (arith, g, encode-events (chip f)) in
+      and-both (allOf (linksInto (encode (chip f)) b) (linkSound (encode (chip f)) b)) (oneSource C b)
+      (ap (λ (k : List ℕ). allOf k (linkSound (encode (chip f)) b)) (links-into (chip f) fit b h n)
+      ∙ run-all (linksBefore (chip f) (512 * b)) (linksAt (chip f) fit b) (linkSound (encode (chip f)) b) (λ m p q. link-sound b m n p (omega (arith, q, links-at (chip f) fit b))))
       (legality.one-source C chip-loads small types values b)))
 
   -- 9: co.
-  no-ring : coRing (encode chip) ≡ false
+  no-ring : coRing (encode (chip f)) ≡ false
   unfolding coRing
   no-ring = legality.no-co-ring C chip-loads small types values
 
   -- 10: there is no strong write.
   none-strong : (e : ℕ) → strongWrite C e ≡ false
   unfolding translated
-  none-strong e = is-false (strongWrite C e) (λ p. none (sym (flagged-says C chip chip-says 2 e) ∙ p))
+  none-strong e = is-false (strongWrite C e) (λ p. none (sym (flagged-says C (chip f) chip-says 2 e) ∙ p))
     where
-      none : Rattle.translation.specs.Translate.flagged chip 2 e ≡ true → ⊥
+      none : Rattle.translation.specs.Translate.flagged (chip f) 2 e ≡ true → ⊥
       none p =
-          let w = flagged-is chip 2 e p in
+          let w = flagged-is (chip f) 2 e p in
           elim (decLe e (old .events)) [
             | yes g ↦ (let c = sym (law.kept old (old .class) 3 e g) ∙ w .class in
                 let z = sym (law.kept old (newFlag old) 0 e g) ∙ w .flag in
@@ -247,12 +244,12 @@ module _ (f : List ℕ) (s : Source f) where
             | no n ↦ omega (arith, law.made old (old .class) 3 e (omega (arith, n)), w .class)
           ]
 
-  all-paired : unpaired (encode chip) ≡ false
+  all-paired : unpaired (encode (chip f)) ≡ false
   unfolding unpaired pairedAt
-  all-paired = ap not (each-all (events (encode chip)) (pairedAt (encode chip)) (λ e h g.
+  all-paired = ap not (each-all (events (encode (chip f))) (pairedAt (encode (chip f))) (λ e h g.
       or-left (not (strongWrite C e)) (some nodes (inverse (C .link 3) e)) (ap not (none-strong e))))
 
-  pub translated-accepted : Accepted (encode chip)
+  pub translated-accepted : Accepted (encode (chip f))
   translated-accepted = record {
     cause1 = long-enough;
     cause2 = kind-known;
@@ -268,4 +265,4 @@ module _ (f : List ℕ) (s : Source f) where
 
   pub translation-accepted : refusal (translation f) ≡ 0
   unfolding translation
-  translation-accepted = accepts (encode chip) translated-accepted
+  translation-accepted = accepts (encode (chip f)) translated-accepted

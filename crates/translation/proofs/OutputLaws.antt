@@ -1,16 +1,14 @@
 -- Laws of writing records into the output: byte by byte, and record after record. Assumes nothing.
-use mathlib.Core.Path.{_≡_, refl, sym, ap, subst, _∙_}
-use mathlib.Core.Bool.{Bool, true, false}
-use mathlib.Core.List.{List, [], _∷_, _++_, append-assoc}
-use Prim.Native.Nat.{ℕ, zero, suc, _+_, _-_, _*_, _<_, _≤_}
+use mathlib.Core.Path.{_≡_, refl, sym, ap, _∙_}
+use mathlib.Core.List.{List, [], _++_, append-assoc}
+use Prim.Native.Nat.{ℕ, _+_, _<_, _≤_}
 use native.Mathlib.Numerals.{add-one}
 use native.Mathlib.Nat.{add-zero}
 use native.Mathlib.Omega.{arith}
 use borrow.Author.Tests.{lt-ltb, le-ltb}
 use lib.ListN.{length, getD, take, drop, set, length-set, length-append, length-drop, take-append-drop}
-use lib.Seq.{paste, paste-zero, paste-suc, length-paste, take-length, length-take-le, take-at, drop-append-add, drop-drop}
-use Rattle.relation.specs.Rel.{Set, count}
-use Rattle.translation.specs.Encode.{chained, records}
+use lib.Seq.{paste, paste-zero, paste-suc, take-length, length-take-le, take-at, drop-append-add, drop-drop}
+use Rattle.translation.specs.Encode.{chained}
 use Rattle.translation.specs.Parts.{placed}
 
 -- k bytes of a record are in place.

@@ -1,9 +1,9 @@
 -- Where a recording says what contents say, and another what their translation says, the second is the translation of the first
 -- as `models` has it. Assumes nothing.
-use mathlib.Core.Path.{_≡_, refl, sym, ap, subst, _∙_}
+use mathlib.Core.Path.{_≡_, refl, sym, ap, _∙_}
 use mathlib.Core.Bool.{Bool, true, false, _&&_, _||_, false≢true}
 use mathlib.Core.Logic.{_⊎_, inl, inr, _↔_}
-use Prim.Native.Nat.{ℕ, zero, suc, _+_, _-_, _<_, _≤_}
+use Prim.Native.Nat.{ℕ, _<_, _≤_}
 use native.Mathlib.Omega.{arith}
 use native.Mathlib.Decide.{ℕ-discrete, decLe}
 use lib.Dec.{T}
@@ -11,14 +11,13 @@ use Rattle.relation.proofs.Meaning.{and-left, and-right, and-both}
 use Rattle.models.specs.Recording.{Recording, event, read, write, fence, access, exclusiveRead, strongWrite, releaseFence, fenceOf}
 use Rattle.models.specs.Translated.{Translated, Control, kept, after-read, after-pair, after-casdep}
 use Rattle.models.proofs.Tests.{or-left, or-right}
-use Rattle.models.proofs.Sets.{initial-event, recorded-event, class-event, class-is, mode-intro, access-event, access-cases}
+use Rattle.models.proofs.Sets.{class-event, class-is, mode-intro, access-event, access-cases}
 use Rattle.translation.specs.Contents.{Contents}
-use Rattle.translation.specs.Translate as new
-use Rattle.translation.specs.Translate.{exclusive, strong, inserted, newEvents, after, keptOr, newMode, newFlag, controlled, newLink, translated}
+use Rattle.translation.specs.Translate.{exclusive, strong, inserted, newEvents, after, keptOr, newMode, newFlag, newLink, translated}
 use Rattle.recording.proofs.Truth.{is-true, holds, same-test, is-false, by-test}
 use Rattle.translation.proofs.TranslateLaws as law
-use Rattle.translation.proofs.TranslateLaws.{Flagged, flagged-is, Linked, stays, exclusively, casdep, New, new-is, new-intro}
-use Rattle.translation.proofs.Says.{Says, Event, initially, recorded, event-says, says-event, flagged-says}
+use Rattle.translation.proofs.TranslateLaws.{flagged-is, Linked, stays, exclusively, casdep, New, new-is, new-intro}
+use Rattle.translation.proofs.Says.{Says, Event, initially, recorded, event-says, flagged-says}
 
 -- What loading ensures of contents for this.
 pub record Sound (s : Contents) : Type 0 where

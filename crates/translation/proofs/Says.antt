@@ -1,9 +1,9 @@
 -- A recording says of each event what contents say: the recording of a file says what its records say, and the recording of an
 -- encoded file what was encoded. Assumes nothing.
 use mathlib.Core.Path.{_≡_, refl, sym, ap, ap₂, _∙_}
-use mathlib.Core.Bool.{Bool, true, false, _&&_, _||_}
+use mathlib.Core.Bool.{true, _&&_}
 use mathlib.Core.List.{List}
-use Prim.Native.Nat.{ℕ, zero, suc, _+_, _-_, _*_, _<_, _≤_}
+use Prim.Native.Nat.{ℕ, _+_, _-_, _*_, _<_, _≤_}
 use native.Mathlib.Omega.{arith}
 use native.Mathlib.Nat.{add-zero}
 use borrow.Author.Tests.{eqb-true, eq-eqb, leb-true, le-leb, ltb-true, lt-ltb}
@@ -16,13 +16,13 @@ use Rattle.models.specs.Recording as recording
 use Rattle.models.proofs.Sets.{initial-event, recorded-event, event-cases, class-event, class-is, class-intro, flag-class, flag-is, flag-intro}
 use Rattle.recording.specs.Layout.{events, locations, eventByte}
 use Rattle.recording.specs.Chains.{nextOf, nextEvent}
-use Rattle.recording.specs.Decode.{isRecorded, isInitial, recordOr, fieldOr, decode}
+use Rattle.recording.specs.Decode.{isRecorded, isInitial, fieldOr, decode}
 use Rattle.recording.proofs.FieldLaws.{recorded-bounds, recorded-is, record-initial, record-recorded, field-initial, field-recorded}
 use Rattle.translation.specs.Contents.{Contents, contents}
 use Rattle.translation.specs.Translate.{flagged}
 use Rattle.translation.specs.Encode.{eventRecord, encode}
 use Rattle.recording.proofs.Truth.{is-true, holds, same-test}
-use Rattle.translation.proofs.TranslateLaws.{Flagged, flagged-is, flagged-intro}
+use Rattle.translation.proofs.TranslateLaws.{flagged-is, flagged-intro}
 use Rattle.translation.proofs.EncodeLaws.{encode-events, encode-locations, encode-event}
 use Rattle.translation.proofs.EncodedLinks.{LinksFit, encoded-link}
 

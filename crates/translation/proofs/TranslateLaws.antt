@@ -1,18 +1,18 @@
 -- Laws of the translation's definitions: strong writes, inserted fences, the new chain and the new links. Assumes nothing.
-use mathlib.Core.Path.{_≡_, refl, sym, ap, subst, _∙_}
-use mathlib.Core.Bool.{Bool, true, false, _&&_, _||_, false≢true}
-use mathlib.Core.Logic.{_⊎_, inl, inr}
-use Prim.Native.Nat.{ℕ, zero, suc, _+_, _-_, _<_, _≤_}
+use mathlib.Core.Path.{_≡_, refl, ap, _∙_}
+use mathlib.Core.Bool.{Bool, true, false, _&&_, _||_}
+use mathlib.Core.Logic.{inl, inr}
+use Prim.Native.Nat.{ℕ, suc, _-_, _<_, _≤_}
 use native.Mathlib.Omega.{arith}
 use borrow.Author.Tests.{le-leb, lt-leb, leb-true, eqb-true, eq-eqb, ne-eqb}
 use lib.Dec.{eqb, leb}
-use Rattle.relation.specs.Rel.{Set, Rel, chain, least, count, nodes}
+use Rattle.relation.specs.Rel.{Set, nodes}
 use Rattle.relation.proofs.Meaning.{and-left, and-right, and-both, or-either, or-left, or-right, chain-sound, chain-complete, mem-below}
 use Rattle.relation.proofs.SetLaws.{least-at, and-false}
 use Rattle.translation.specs.Contents.{Contents}
-use Rattle.translation.specs.Translate.{flagged, exclusive, strong, inserted, newEvents, fenced, after, follows, keptOr, newMode, newFlag, controlled, fromExclusive, fromCasdep, newLink, translated}
-use Rattle.translation.proofs.Counting.{count-le, count-lt, count-injective, Member, select}
-use Rattle.translation.proofs.Woven.{Weaves, by-cases}
+use Rattle.translation.specs.Translate.{flagged, exclusive, strong, inserted, newEvents, fenced, after, follows, keptOr, newMode, newFlag, controlled, fromExclusive, fromCasdep, newLink}
+use Rattle.translation.proofs.Counting.{count-lt, count-injective, select}
+use Rattle.translation.proofs.Woven.{Weaves}
 
 module _ (s : Contents) where
   -- What it is to be flagged.

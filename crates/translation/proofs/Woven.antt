@@ -1,21 +1,20 @@
 -- Chaining new numbers in: after each number of a set one new number of its own. Where nothing was met twice or never,
 -- nothing is afterwards. Assumes nothing.
 use mathlib.Core.Path.{_≡_, refl, sym, ap, subst, _∙_}
-use mathlib.Core.Bool.{Bool, true, false, not, _&&_, _||_, false≢true}
+use mathlib.Core.Bool.{Bool, true, false, not, _&&_, false≢true}
 use mathlib.Core.List.{List, [], _∷_, _++_}
 use mathlib.Core.Logic.{_⊎_, inl, inr}
-use Prim.Native.Nat.{ℕ, zero, suc, _+_, _-_, _<_, _≤_}
+use Prim.Native.Nat.{ℕ, zero, suc, _<_, _≤_}
 use native.Mathlib.Omega.{arith}
-use native.Mathlib.Decide.{ℕ-discrete, decLe}
-use borrow.Author.Tests.{eq-eqb, ne-eqb, le-leb}
-use lib.Dec.{eqb, leb}
-use lib.ListN.{length}
+use native.Mathlib.Decide.{decLe}
+use borrow.Author.Tests.{le-leb}
+use lib.Dec.{leb}
 use Rattle.relation.specs.Rel.{Set}
-use Rattle.relation.proofs.Meaning.{and-left, and-right, and-both, or-left, or-right, or-either}
-use Rattle.recording.specs.Chains.{among, follow, chain, met, fresh, each, allMet, onceEach, pushed}
+use Rattle.relation.proofs.Meaning.{and-left, and-right, and-both}
+use Rattle.recording.specs.Chains.{among, chain, met, fresh, allMet, onceEach}
 use Rattle.recording.proofs.ChainLaws.{each-at}
 use Rattle.recording.proofs.Accepted.{each-all}
-use Rattle.recording.proofs.ChainFacts.{Ended, end, step, among-here, among-there, among-cases, among-append, Fresh, fresh-cons, fresh-length, chain-ended, chain-fresh, ended-walk, ended-positive}
+use Rattle.recording.proofs.ChainFacts.{Ended, end, step, among-here, among-there, among-cases, Fresh, fresh-cons, fresh-length, chain-ended, chain-fresh, ended-walk, ended-positive}
 
 -- After each number of the set s, all at most n, comes a new one, `new`: these are the numbers from n + 1 to m, each once.
 pub record Weaves (n m : ℕ) (next after : ℕ → ℕ) (s : Set) (new : ℕ → ℕ) : Type 0 where

@@ -1,8 +1,8 @@
 -- Laws of the writers: the header, and records written one after the other. Assumes nothing.
 use mathlib.Core.Path.{_≡_, refl, sym, ap, ap₂, _∙_}
-use mathlib.Core.Bool.{Bool, true, false}
+use mathlib.Core.Bool.{true, false}
 use mathlib.Core.List.{List, [], _∷_, _++_}
-use Prim.Native.Nat.{ℕ, zero, suc, _+_, _-_, _*_, _/_, _%_, _<_, _≤_}
+use Prim.Native.Nat.{ℕ, suc, _+_, _-_, _*_, _/_, _%_, _<_, _≤_}
 use native.Mathlib.Numerals.{add-one}
 use native.Mathlib.Nat.{add-assoc}
 use native.Mathlib.Omega.{arith}
@@ -10,19 +10,20 @@ use borrow.Author.Tests.{le-leb}
 use lib.Dec.{leb}
 use lib.ListN.{length, getD}
 use Rattle.relation.specs.Rel.{Set, Rel, inverse, count}
-use Rattle.recording.specs.Layout.{locations, eventByte}
-use Rattle.recording.specs.Chains.{startOf, head}
+use Rattle.recording.specs.Layout.{eventByte}
+use Rattle.recording.specs.Chains.{startOf}
 use Rattle.translation.specs.Contents.{Contents, contents}
 use Rattle.translation.specs.Translate.{newEvents, after, keptOr, newMode, newFlag, newLink, translated}
 use Rattle.translation.specs.Encode.{chained, records, isLink, linksBefore, linksUpTo, header, eventRecord, linkRecord, eventRecords, linkRecords}
-use Rattle.translation.specs.Parts.{Source, NewEvent, ctrlInto, placed, rowRecord, linkStretch}
+use Rattle.translation.specs.Answer.{chip}
+use Rattle.translation.specs.Parts.{Source, NewEvent, Ready, placed, rowRecord, linkStretch}
 use Rattle.translation.proofs.Counting.{count-le, count-mono, count-yes, count-no, count-lt, count-add, count-same}
 use Rattle.translation.proofs.RecordLaws.{records-yes, records-no, records-length, records-add, records-same}
-use Rattle.translation.proofs.EncodeLaws.{event-size, link-size, events-length, links-length}
+use Rattle.translation.proofs.EncodeLaws.{link-size, events-length, links-length}
 use Rattle.translation.proofs.EncodedLinks.{digits, link-number}
 use Rattle.translation.proofs.OutputLaws.{placed-nil, length-placed, placed-placed}
-use Rattle.translation.proofs.Bounds.{most-events, most-links}
-use Rattle.translation.proofs.LinkRows.{LinksCounted, links-start, links-more, links-all, EventsCounted, events-start, event-counted, events-more, count-row}
+use Rattle.translation.proofs.Bounds.{most-links}
+use Rattle.translation.proofs.LinkRows.{LinksCounted, links-start, links-more, links-all, EventsCounted, events-start, events-more, count-row}
 
 -- Equal bytes make equal records.
 pub eight : {a b c d e f g h a′ b′ c′ d′ e′ f′ g′ h′ : ℕ} → a ≡ a′ → b ≡ b′ → c ≡ c′ → d ≡ d′ → e ≡ e′ → f ≡ f′ → g ≡ g′ → h ≡ h′
@@ -30,15 +31,15 @@ pub eight : {a b c d e f g h a′ b′ c′ d′ e′ f′ g′ h′ : ℕ} → 
 eight p q r s t u v w = cc
 
 module _ (f : List ℕ) (s : Source f) where
-  pub header-is : (n m : ℕ) → n ≡ newEvents (contents f) → m ≡ linksUpTo (translated (contents f)) n
-      → (2 ∷ n ∷ getD f 2 0 ∷ m ∷ getD f 4 0 ∷ getD f 5 0 ∷ getD f 6 0 ∷ getD f 7 0 ∷ []) ≡ header (translated (contents f))
+  pub header-is : (n m : ℕ) → n ≡ newEvents (contents f) → m ≡ linksUpTo (chip f) n
+      → (2 ∷ n ∷ getD f 2 0 ∷ m ∷ getD f 4 0 ∷ getD f 5 0 ∷ getD f 6 0 ∷ getD f 7 0 ∷ []) ≡ header (chip f)
   unfolding header translated contents startOf
-  header-is n m p q = eight refl p refl (q ∙ ap (λ (x : ℕ). linksUpTo (translated (contents f)) x) p) refl refl refl refl
+  header-is n m p q = eight refl p refl (q ∙ ap (λ (x : ℕ). linksUpTo (chip f) x) p) refl refl refl refl
 
   pub event-is : (e a c m g l x y first : ℕ) → a ≡ after (contents f) e → c ≡ keptOr (contents f) (λ x. eventByte f x 1) 3 e → m ≡ keptOr (contents f) (newMode (contents f)) 5 e
       → g ≡ keptOr (contents f) (newFlag (contents f)) 0 e → l ≡ keptOr (contents f) (λ x. eventByte f x 4) 0 e → x ≡ keptOr (contents f) (λ x. eventByte f x 5) 0 e
-      → y ≡ keptOr (contents f) (λ x. eventByte f x 6) 0 e → first ≡ chained (linksUpTo (translated (contents f)) e) (linksBefore (translated (contents f)) (512 * e))
-      → (a ∷ c ∷ m ∷ g ∷ l ∷ x ∷ y ∷ first ∷ []) ≡ eventRecord (translated (contents f)) e
+      → y ≡ keptOr (contents f) (λ x. eventByte f x 6) 0 e → first ≡ chained (linksUpTo (chip f) e) (linksBefore (chip f) (512 * e))
+      → (a ∷ c ∷ m ∷ g ∷ l ∷ x ∷ y ∷ first ∷ []) ≡ eventRecord (chip f) e
   unfolding eventRecord translated contents
   event-is e a c m g l x y first p1 p2 p3 p4 p5 p6 p7 p8 = eight p1 p2 p3 p4 p5 p6 p7 p8
 
@@ -47,18 +48,18 @@ pub record EventsWritten (f : List ℕ) (g : Rel) (n : ℕ) (out₀ : List ℕ) 
   pub counted : EventsCounted f g n e before
   pub room : 8 + 8 * n ≤ length out₀
   pub long : length out ≡ length out₀
-  pub done : out ≡ placed out₀ 8 (eventRecords (translated (contents f)) e)
+  pub done : out ≡ placed out₀ 8 (eventRecords (chip f) e)
 
 module _ (f : List ℕ) (g : Rel) (n : ℕ) (out₀ : List ℕ) where
-  pub written-none : Source f → n ≡ newEvents (contents f) → g ≡ ctrlInto (contents f) → 8 + 8 * n ≤ length out₀ → EventsWritten f g n out₀ 1 0 out₀
+  pub written-none : Ready f g → n ≡ newEvents (contents f) → 8 + 8 * n ≤ length out₀ → EventsWritten f g n out₀ 1 0 out₀
   unfolding eventRecords records
-  written-none s e c r = record { counted = events-start f g n s e c; room = r; long = refl; done = placed-nil out₀ 8 }
+  written-none y e r = record { counted = events-start f g n y e; room = r; long = refl; done = placed-nil out₀ 8 }
 
   pub written-more : (e before : ℕ) (out : List ℕ) (last : ℕ) (bytes out′ : List ℕ) → EventsWritten f g n out₀ e before out → e ≤ n
-      → last ≡ linksUpTo (translated (contents f)) e → bytes ≡ eventRecord (translated (contents f)) e → out′ ≡ placed out (8 * e) bytes → EventsWritten f g n out₀ (e + 1) last out′
+      → last ≡ linksUpTo (chip f) e → bytes ≡ eventRecord (chip f) e → out′ ≡ placed out (8 * e) bytes → EventsWritten f g n out₀ (e + 1) last out′
   unfolding eventRecords
   written-more e before out last bytes out′ w h p q r =
-      let c = translated (contents f) in
+      let c = chip f in
       let low = w .counted .low in
       let one-less : e ≡ suc (e - 1) = omega arith in
       let size = ap (λ (x : ℕ). length (eventRecords c x)) one-less ∙ events-length c (e - 1) in
@@ -73,8 +74,8 @@ module _ (f : List ℕ) (g : Rel) (n : ℕ) (out₀ : List ℕ) where
         done = done;
       }
 
-  pub written-all : (e before : ℕ) (out : List ℕ) → EventsWritten f g n out₀ e before out → n + 1 ≡ e → out ≡ placed out₀ 8 (eventRecords (translated (contents f)) (suc n))
-  written-all e before out w p = w .done ∙ ap (λ (x : ℕ). placed out₀ 8 (eventRecords (translated (contents f)) x)) (sym p ∙ add-one n)
+  pub written-all : (e before : ℕ) (out : List ℕ) → EventsWritten f g n out₀ e before out → n + 1 ≡ e → out ≡ placed out₀ 8 (eventRecords (chip f) (suc n))
+  written-all e before out w p = w .done ∙ ap (λ (x : ℕ). placed out₀ 8 (eventRecords (chip f) x)) (sym p ∙ add-one n)
 
 -- The links from the first a sources of a row are written.
 pub record RowWritten (part₀ : List ℕ) (row : Set) (t last n a m : ℕ) (part : List ℕ) : Type 0 where
@@ -191,24 +192,24 @@ stretch-length c k d =
 -- The links into b of types below t are written.
 pub record IntoWritten (f : List ℕ) (g : Rel) (b n last : ℕ) (part₀ : List ℕ) (t m : ℕ) (part : List ℕ) : Type 0 where
   pub counted : LinksCounted f g b t m
-  pub first : n ≡ linksBefore (translated (contents f)) (512 * b)
-  pub last-is : last ≡ linksUpTo (translated (contents f)) b
-  pub room : 4 * linksUpTo (translated (contents f)) b ≤ length part₀
+  pub first : n ≡ linksBefore (chip f) (512 * b)
+  pub last-is : last ≡ linksUpTo (chip f) b
+  pub room : 4 * linksUpTo (chip f) b ≤ length part₀
   pub long : length part ≡ length part₀
-  pub done : part ≡ placed part₀ (4 * n) (linkStretch (translated (contents f)) (512 * b) (64 * t))
+  pub done : part ≡ placed part₀ (4 * n) (linkStretch (chip f) (512 * b) (64 * t))
 
 module _ (f : List ℕ) (g : Rel) (b n last : ℕ) (part₀ : List ℕ) where
-  pub into-none : Source f → NewEvent (contents f) b → g ≡ ctrlInto (contents f) → n ≡ linksBefore (translated (contents f)) (512 * b)
-      → 4 * linksUpTo (translated (contents f)) b ≤ length part₀ → last ≡ linksUpTo (translated (contents f)) b → IntoWritten f g b n last part₀ 0 n part₀
+  pub into-none : Ready f g → NewEvent (contents f) b → n ≡ linksBefore (chip f) (512 * b)
+      → 4 * linksUpTo (chip f) b ≤ length part₀ → last ≡ linksUpTo (chip f) b → IntoWritten f g b n last part₀ 0 n part₀
   unfolding linkStretch records
-  into-none s e c p r q = record { counted = links-start f g b s e c n p; first = p; last-is = q; room = r; long = refl; done = placed-nil part₀ (4 * n) }
+  into-none y e p r q = record { counted = links-start f g b y e n p; first = p; last-is = q; room = r; long = refl; done = placed-nil part₀ (4 * n) }
 
   -- What one row more asks for.
   pub into-room : (t m : ℕ) (part : List ℕ) (row : Set) → IntoWritten f g b n last part₀ t m part → t < 8 → row ≡ inverse (newLink (contents f) t) b
       → (last < 256) × (m < 256) × (4 * (m + count 64 row) ≤ length part)
   into-room t m part row w h e =
-      let c = translated (contents f) in
-      let s = w .counted .source in
+      let c = chip f in
+      let s = w .counted .ready .source in
       let all : linksBefore c (512 * b + 64 * (t + 1)) ≤ linksUpTo c b = count-mono (512 * b + 64 * (t + 1)) (512 * suc b) (isLink c) (omega arith) in
       let most = most-links f s b in
       let more = count-row (contents f) b t row h e in
@@ -217,7 +218,7 @@ module _ (f : List ℕ) (g : Rel) (b n last : ℕ) (part₀ : List ℕ) where
   pub into-more : (t m x : ℕ) (part : List ℕ) (row : Set) (part′ : List ℕ) → IntoWritten f g b n last part₀ t m part → t < 8 → row ≡ inverse (newLink (contents f) t) b
       → x ≡ m + count 64 row → part′ ≡ placed part (4 * m) (records (rowRecord t last m row) row 64) → IntoWritten f g b n last part₀ (t + 1) x part′
   into-more t m x part row part′ w h e p q =
-      let c = translated (contents f) in
+      let c = chip f in
       let old = linkStretch c (512 * b) (64 * t) in
       let size = stretch-length c (512 * b) (64 * t) in
       let all : linksBefore c (512 * b + 64 * (t + 1)) ≤ linksUpTo c b = count-mono (512 * b + 64 * (t + 1)) (512 * suc b) (isLink c) (omega arith) in
@@ -227,7 +228,7 @@ module _ (f : List ℕ) (g : Rel) (b n last : ℕ) (part₀ : List ℕ) where
       ∙ ap (placed part₀ (4 * n)) (stretch-row (contents f) b t row h e last m (w .last-is) (w .counted .same)) in
       record {
         counted = (let k = links-more f g b t m (count 64 row) row (w .counted) h e refl in
-            record { source = k .source; event = k .event; grid = k .grid; same = p ∙ k .same });
+            record { ready = k .ready; event = k .event; same = p ∙ k .same });
         first = w .first;
         last-is = w .last-is;
         room = w .room;
@@ -236,40 +237,40 @@ module _ (f : List ℕ) (g : Rel) (b n last : ℕ) (part₀ : List ℕ) where
       }
 
   pub into-all : (t m : ℕ) (part : List ℕ) → IntoWritten f g b n last part₀ t m part → t ≡ 8
-      → (m ≡ linksUpTo (translated (contents f)) b) × (part ≡ placed part₀ (4 * n) (linkStretch (translated (contents f)) (512 * b) 512))
+      → (m ≡ linksUpTo (chip f) b) × (part ≡ placed part₀ (4 * n) (linkStretch (chip f) (512 * b) 512))
   into-all t m part w e =
       let place : 64 * t ≡ 512 = omega arith in
-      (links-all f g b t m (w .counted) e .0, w .done ∙ ap (λ (x : ℕ). placed part₀ (4 * n) (linkStretch (translated (contents f)) (512 * b) x)) place)
+      (links-all f g b t m (w .counted) e .0, w .done ∙ ap (λ (x : ℕ). placed part₀ (4 * n) (linkStretch (chip f) (512 * b) x)) place)
 
 -- The links into events below b are written.
 pub record LinksWritten (f : List ℕ) (g : Rel) (n : ℕ) (part₀ : List ℕ) (b m : ℕ) (part : List ℕ) : Type 0 where
   pub counted : EventsCounted f g n b m
-  pub room : 4 * linksUpTo (translated (contents f)) n ≤ length part₀
+  pub room : 4 * linksUpTo (chip f) n ≤ length part₀
   pub long : length part ≡ length part₀
-  pub done : part ≡ placed part₀ 0 (linkRecords (translated (contents f)) (512 * b))
+  pub done : part ≡ placed part₀ 0 (linkRecords (chip f) (512 * b))
 
 no-bytes : (l : List ℕ) → length l ≡ 0 → l ≡ []
 no-bytes [] e = refl
 no-bytes (x ∷ l) e = absurd (omega arith)
 
 module _ (f : List ℕ) (g : Rel) (n : ℕ) (part₀ : List ℕ) where
-  pub links-none : Source f → n ≡ newEvents (contents f) → g ≡ ctrlInto (contents f) → 4 * linksUpTo (translated (contents f)) n ≤ length part₀ → LinksWritten f g n part₀ 1 0 part₀
-  links-none s e p r =
-      let c = translated (contents f) in
-      let start = events-start f g n s e p in
+  pub links-none : Ready f g → n ≡ newEvents (contents f) → 4 * linksUpTo (chip f) n ≤ length part₀ → LinksWritten f g n part₀ 1 0 part₀
+  links-none y e r =
+      let c = chip f in
+      let start = events-start f g n y e in
       let empty : linkRecords c 512 ≡ [] = no-bytes (linkRecords c 512) (links-length c 512 ∙ omega (arith, start .same)) in
       record { counted = start; room = r; long = refl; done = placed-nil part₀ 0 ∙ ap (placed part₀ 0) (sym empty) }
 
-  pub links-room : (b m : ℕ) (part : List ℕ) → LinksWritten f g n part₀ b m part → b ≤ n → 4 * linksUpTo (translated (contents f)) b ≤ length part
+  pub links-room : (b m : ℕ) (part : List ℕ) → LinksWritten f g n part₀ b m part → b ≤ n → 4 * linksUpTo (chip f) b ≤ length part
   links-room b m part w h =
-      let c = translated (contents f) in
+      let c = chip f in
       omega (arith, count-mono (512 * suc b) (512 * suc n) (isLink c) (omega arith), w .room, w .long)
 
-  pub links-written : (b m x : ℕ) (part part′ : List ℕ) → LinksWritten f g n part₀ b m part → b ≤ n → x ≡ linksUpTo (translated (contents f)) b
-      → part′ ≡ placed part (4 * m) (linkStretch (translated (contents f)) (512 * b) 512) → LinksWritten f g n part₀ (b + 1) x part′
+  pub links-written : (b m x : ℕ) (part part′ : List ℕ) → LinksWritten f g n part₀ b m part → b ≤ n → x ≡ linksUpTo (chip f) b
+      → part′ ≡ placed part (4 * m) (linkStretch (chip f) (512 * b) 512) → LinksWritten f g n part₀ (b + 1) x part′
   unfolding linkRecords linkStretch
   links-written b m x part part′ w h p q =
-      let c = translated (contents f) in
+      let c = chip f in
       let place : 512 * (b + 1) ≡ 512 * b + 512 = omega arith in
       let some : linksBefore c (512 * b) ≤ linksUpTo c n = count-mono (512 * b) (512 * suc n) (isLink c) (omega arith) in
       let all : linksBefore c (512 * (b + 1)) ≤ linksUpTo c n = count-mono (512 * (b + 1)) (512 * suc n) (isLink c) (omega arith) in
@@ -285,5 +286,5 @@ module _ (f : List ℕ) (g : Rel) (n : ℕ) (part₀ : List ℕ) where
         done = done;
       }
 
-  pub links-done : (b m : ℕ) (part : List ℕ) → LinksWritten f g n part₀ b m part → n + 1 ≡ b → part ≡ placed part₀ 0 (linkRecords (translated (contents f)) (512 * suc n))
-  links-done b m part w e = w .done ∙ ap (λ (x : ℕ). placed part₀ 0 (linkRecords (translated (contents f)) (512 * x))) (sym e ∙ add-one n)
+  pub links-done : (b m : ℕ) (part : List ℕ) → LinksWritten f g n part₀ b m part → n + 1 ≡ b → part ≡ placed part₀ 0 (linkRecords (chip f) (512 * suc n))
+  links-done b m part w e = w .done ∙ ap (λ (x : ℕ). placed part₀ 0 (linkRecords (chip f) (512 * x))) (sym e ∙ add-one n)

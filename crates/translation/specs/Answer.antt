@@ -1,19 +1,22 @@
 -- What a call of the translation answers and leaves (01, "The translation" and "Causes of refusal"). Assumes nothing.
-use mathlib.Core.Bool.{Bool, true, false}
+use mathlib.Core.Bool.{true, false}
 use mathlib.Core.List.{List, _++_}
 use Prim.Native.Nat.{ℕ, zero, suc}
 use lib.Dec.{ltb}
 use lib.ListN.{length, drop}
 use Rattle.recording.specs.Load.{causeFor}
-use Rattle.translation.specs.Contents.{contents}
+use Rattle.translation.specs.Contents.{Contents, contents}
 use Rattle.translation.specs.Translate.{translated}
 use Rattle.translation.specs.Encode.{encode}
 use Rattle.translation.specs.declared.Translation.{Translation}
 use Rattle.translation.specs.declared.Translation.the-variants.{Refused, Written}
 
--- The bytes of the translation.
+-- The translation of a file: what its records say, and its bytes.
+abbrev pub chip : List ℕ → Contents
+chip f = translated (contents f)
+
 unfoldable pub translation : List ℕ → List ℕ
-translation f = encode (translated (contents f))
+translation f = encode (chip f)
 
 -- The number of the first cause that refuses a call with so many bytes of output, and 0 where none does: 1 to 10 as loading gives them,
 -- 11 a file of the other kind, 12 an output shorter than the translation.

@@ -1,8 +1,8 @@
 -- The bytes of a recording whose links are a set: each link is written once, "ordered by target, type, source, and chained in that order"
 -- (01, "The translation"; the records as in "The recording"). Assumes nothing.
-use mathlib.Core.Bool.{Bool, true, false}
+use mathlib.Core.Bool.{true, false}
 use mathlib.Core.List.{List, [], _∷_, _++_}
-use Prim.Native.Nat.{ℕ, zero, suc, _+_, _*_, _/_, _%_}
+use Prim.Native.Nat.{ℕ, zero, suc, _*_, _/_, _%_}
 use lib.Dec.{leb, ltb}
 use Rattle.relation.specs.Rel.{Set, count}
 use Rattle.translation.specs.Contents.{Contents}
@@ -18,7 +18,7 @@ chained last n = elim (ltb n last) [ true ↦ suc n | false ↦ 0 ]
 
 module _ (c : Contents) where
   -- A link as one number, with target, type and source as its digits: 512 times the target, 64 times the type, and the source.
-  -- So the order of these numbers is the order by target, type, source.
+  -- Types are below 8 and event numbers below 64, so the order of these numbers is the order by target, type, source.
   unfoldable pub isLink : Set
   isLink k = c .link (k / 64 % 8) (k % 64) (k / 512)
 

@@ -8,7 +8,7 @@ use lib.ListN.{length, take, drop}
 use Rattle.relation.specs.Rel.{Set, Rel, either, inverse, count}
 use Rattle.recording.specs.Layout.{kind}
 use Rattle.recording.specs.Causes.{refusal}
-use Rattle.translation.specs.Contents.{Contents}
+use Rattle.translation.specs.Contents.{Contents, contents}
 use Rattle.translation.specs.Translate.{newEvents, follows, fromExclusive, fromCasdep}
 use Rattle.translation.specs.Encode.{chained, records, isLink, linkRecord}
 
@@ -35,6 +35,11 @@ module _ (s : Contents) where
   -- The ctrl links of the translation, from target to source.
   unfoldable pub ctrlInto : Rel
   ctrlInto = inverse (either (s .link 6) (either (fromExclusive s) (fromCasdep s)))
+
+-- A source file that loads, with a grid of the translation's ctrl links.
+pub record Ready (f : List ℕ) (ctrl : Rel) : Type 0 where
+  pub source : Source f
+  pub grid : ctrl ≡ ctrlInto (contents f)
 
 -- The record of the link of type t from a, where n links come before those of the row, and `last` is the number of the last into the same event.
 unfoldable pub rowRecord : ℕ → ℕ → ℕ → Set → ℕ → List ℕ

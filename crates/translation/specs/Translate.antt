@@ -1,6 +1,6 @@
 -- The translation of a source recording (01, "The translation"), sentence by sentence. Assumes nothing.
 use mathlib.Core.Bool.{Bool, true, false, _&&_, _||_}
-use Prim.Native.Nat.{ℕ, zero, suc, _+_}
+use Prim.Native.Nat.{ℕ, suc, _+_}
 use lib.Dec.{eqb, leb}
 use Rattle.relation.specs.Rel.{Set, Rel, chain, least, count, nodes}
 use Rattle.translation.specs.Contents.{Contents}
@@ -15,6 +15,13 @@ module _ (s : Contents) where
 
   abbrev pub strong : Set
   strong = flagged 2
+
+  -- "Read and write modes stay, strong flags become 0. Fence 1 becomes 5; fences 2, 3, 4 become 6."
+  unfoldable pub newMode : ℕ → ℕ
+  newMode e = elim (eqb (s .class e) 3) [ true ↦ elim (eqb (s .mode e) 1) [ true ↦ 5 | false ↦ 6 ] | false ↦ s .mode e ]
+
+  unfoldable pub newFlag : ℕ → ℕ
+  newFlag e = elim (strong e) [ true ↦ 0 | false ↦ s .flag e ]
 
   -- "After each strong write a fence of mode 5 is chained in, numbered N + 1 upward by the write's number."
   -- The fence of the strong write w, the new N, and the strong write whose fence e is.
@@ -38,17 +45,9 @@ module _ (s : Contents) where
   unfoldable pub follows : Rel
   follows e b = eqb (after e) b
 
-  -- What the record of e says: as before where e had one, else what an inserted fence has.
+  -- "Events keep their numbers": what the record of e says, or what an inserted fence has.
   unfoldable pub keptOr : (ℕ → ℕ) → ℕ → ℕ → ℕ
   keptOr kept new e = elim (leb e (s .events)) [ true ↦ kept e | false ↦ new ]
-
-  -- "Read and write modes stay .. Fence 1 becomes 5; fences 2, 3, 4 become 6."
-  unfoldable pub newMode : ℕ → ℕ
-  newMode e = elim (eqb (s .class e) 3) [ true ↦ elim (eqb (s .mode e) 1) [ true ↦ 5 | false ↦ 6 ] | false ↦ s .mode e ]
-
-  -- ".. strong flags become 0."
-  unfoldable pub newFlag : ℕ → ℕ
-  newFlag e = elim (strong e) [ true ↦ 0 | false ↦ s .flag e ]
 
   -- "For each exclusive read r a ctrl link goes to the event directly after r; if r has both rmw and data to its write,
   -- to the event after that write." A pair's write is the event directly after its read.
@@ -62,14 +61,13 @@ module _ (s : Contents) where
   unfoldable pub fromCasdep : Rel
   fromCasdep = chain nodes (s .link 7) follows
 
-  -- "Links 1 to 6 stay", and ctrl links (6) are added; "with no such event there is no link".
+  -- "Links 1 to 6 stay"; ctrl (6) gains these; "with no such event there is no link".
   unfoldable pub newLink : ℕ → ℕ → ℕ → Bool
   newLink t a b =
       leb 1 b && leb b newEvents
       && ((leb 1 t && leb t 6 && s .link t a b) || (eqb t 6 && (fromExclusive a b || fromCasdep a b)))
 
-  -- "The header has kind 2, the new N .., the old L and heads. Events keep their numbers." An inserted fence has class 3, mode 5,
-  -- and flag, location and value 0.
+  -- "The header has kind 2, the new N .., the old L and heads." An inserted fence has class 3, mode 5, and flag, location and value 0.
   unfoldable pub translated : Contents
   translated =
       record {

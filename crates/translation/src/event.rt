@@ -3,13 +3,12 @@
 use recording::field;
 ghost use mathlib.Core.Path.{_≡_};
 ghost use mathlib.Core.Bool.{_&&_};
-ghost use Prim.Native.Nat.{ℕ, suc, _+_, _*_, _≤_, _<_};
+ghost use Prim.Native.Nat.{_+_, _≤_, _<_};
 ghost use lib.Dec.{eqb};
-ghost use lib.ListN.{length, take, drop};
 ghost use Rattle.relation.specs.Rel.{count};
-ghost use Rattle.recording.specs.Layout.{events, eventByte};
+ghost use Rattle.recording.specs.Layout.{eventByte};
 ghost use Rattle.translation.specs.Contents.{contents};
-ghost use Rattle.translation.specs.Translate.{strong, inserted, newEvents, fenced, after, keptOr, newMode, newFlag, translated};
+ghost use Rattle.translation.specs.Translate.{strong, inserted, newEvents, fenced, after, keptOr, newMode, newFlag};
 ghost use Rattle.translation.specs.Parts.{Source, NewEvent};
 
 // How many strong writes have a number below e.

@@ -6,14 +6,15 @@ use recording::graph;
 use relation::grid;
 use relation::row;
 ghost use mathlib.Core.Path.{_≡_};
-ghost use Prim.Native.Nat.{ℕ, suc, _+_, _*_, _≤_, _<_};
+ghost use Prim.Native.Nat.{_*_, _≤_, _<_};
 ghost use Rattle.relation.specs.Rel.{inverse};
 ghost use Rattle.relation.specs.Bits.{bit, edge};
 ghost use Rattle.recording.specs.Layout.{events};
 ghost use Rattle.translation.specs.Contents.{contents};
-ghost use Rattle.translation.specs.Translate.{newEvents, controlled, newLink, translated};
+ghost use Rattle.translation.specs.Translate.{newEvents, controlled, newLink};
 ghost use Rattle.translation.specs.Encode.{linksBefore, linksUpTo};
-ghost use Rattle.translation.specs.Parts.{Source, NewEvent, targets, ctrlInto};
+ghost use Rattle.translation.specs.Answer.{chip};
+ghost use Rattle.translation.specs.Parts.{Source, NewEvent, Ready, targets, ctrlInto};
 
 // The event that the ctrl link from the exclusive read r goes to: the one directly after r, or after its write where r has both rmw and
 // data to it.
@@ -71,7 +72,7 @@ pub fn ctrl(file: &[u8]) -> [[u8; 8]; 64]
 
 // The sources of the links of type t into b.
 pub fn sources(file: &[u8], ctrl: [[u8; 8]; 64], b: usize, t: usize) -> [u8; 8]
-    requires { ⌜ Source (now file) × NewEvent (contents (now file)) b × (edge ctrl ≡ ctrlInto (contents (now file))) × (t < 8) ⌝ }
+    requires { ⌜ Ready (now file) (edge ctrl) × NewEvent (contents (now file)) b × (t < 8) ⌝ }
     ensures { λ r. ⌜ bit r ≡ inverse (newLink (contents (now (file .entry))) t) b ⌝ }
 {
     if t == 6 {
@@ -88,8 +89,8 @@ pub fn sources(file: &[u8], ctrl: [[u8; 8]; 64], b: usize, t: usize) -> [u8; 8]
 
 // How many links there are into events 1 to b, where there are n into smaller ones.
 pub fn links_up_to(file: &[u8], ctrl: [[u8; 8]; 64], b: usize, n: usize) -> usize
-    requires { ⌜ Source (now file) × NewEvent (contents (now file)) b × (edge ctrl ≡ ctrlInto (contents (now file))) × (n ≡ linksBefore (translated (contents (now file))) (512 * b)) ⌝ }
-    ensures { λ r. ⌜ (r ≡ linksUpTo (translated (contents (now (file .entry)))) b) × (r ≤ 232) ⌝ }
+    requires { ⌜ Ready (now file) (edge ctrl) × NewEvent (contents (now file)) b × (n ≡ linksBefore (chip (now file)) (512 * b)) ⌝ }
+    ensures { λ r. ⌜ (r ≡ linksUpTo (chip (now (file .entry))) b) × (r ≤ 232) ⌝ }
 {
     let mut m = n;
     let mut t: usize = 0;
@@ -102,8 +103,8 @@ pub fn links_up_to(file: &[u8], ctrl: [[u8; 8]; 64], b: usize, n: usize) -> usiz
 
 // How many links there are, where there are n events.
 pub fn count_links(file: &[u8], ctrl: [[u8; 8]; 64], n: usize) -> usize
-    requires { ⌜ Source (now file) × (n ≡ newEvents (contents (now file))) × (edge ctrl ≡ ctrlInto (contents (now file))) ⌝ }
-    ensures { λ r. ⌜ (r ≡ linksUpTo (translated (contents (now (file .entry)))) n) × (r ≤ 232) ⌝ }
+    requires { ⌜ Ready (now file) (edge ctrl) × (n ≡ newEvents (contents (now file))) ⌝ }
+    ensures { λ r. ⌜ (r ≡ linksUpTo (chip (now (file .entry))) n) × (r ≤ 232) ⌝ }
 {
     let mut m: usize = 0;
     let mut b: usize = 1;

@@ -5,19 +5,20 @@ use crate::link;
 use crate::output;
 use relation::row;
 ghost use mathlib.Core.Path.{_≡_};
-ghost use Prim.Native.Nat.{ℕ, suc, _+_, _*_, _≤_, _<_};
+ghost use Prim.Native.Nat.{suc, _+_, _*_, _≤_, _<_};
 ghost use lib.ListN.{length};
 ghost use Rattle.relation.specs.Rel.{count};
 ghost use Rattle.relation.specs.Bits.{bit, edge};
 ghost use Rattle.translation.specs.Contents.{contents};
-ghost use Rattle.translation.specs.Translate.{newEvents, translated};
+ghost use Rattle.translation.specs.Translate.{newEvents};
 ghost use Rattle.translation.specs.Encode.{chained, linksBefore, linksUpTo, header, eventRecord, eventRecords, linkRecords, records};
-ghost use Rattle.translation.specs.Parts.{Source, NewEvent, ctrlInto, placed, rowRecord, linkStretch};
+ghost use Rattle.translation.specs.Answer.{chip};
+ghost use Rattle.translation.specs.Parts.{Source, NewEvent, Ready, placed, rowRecord, linkStretch};
 
 // The header: kind 2, the new N and M, the old L and heads.
 pub fn header(file: &[u8], n: usize, m: usize) -> [u8; 8]
-    requires { ⌜ Source (now file) × (n ≡ newEvents (contents (now file))) × (m ≡ linksUpTo (translated (contents (now file))) n) ⌝ }
-    ensures { λ r. ⌜ r ≡ header (translated (contents (now (file .entry)))) ⌝ }
+    requires { ⌜ Source (now file) × (n ≡ newEvents (contents (now file))) × (m ≡ linksUpTo (chip (now file)) n) ⌝ }
+    ensures { λ r. ⌜ r ≡ header (chip (now (file .entry))) ⌝ }
 {
     [
         2,
@@ -33,8 +34,8 @@ pub fn header(file: &[u8], n: usize, m: usize) -> [u8; 8]
 
 // The record of event e, whose first link is given.
 pub fn event_record(file: &[u8], e: usize, first: usize) -> [u8; 8]
-    requires { ⌜ Source (now file) × NewEvent (contents (now file)) e × (first < 256) × (first ≡ chained (linksUpTo (translated (contents (now file))) e) (linksBefore (translated (contents (now file))) (512 * e))) ⌝ }
-    ensures { λ r. ⌜ r ≡ eventRecord (translated (contents (now (file .entry)))) e ⌝ }
+    requires { ⌜ Source (now file) × NewEvent (contents (now file)) e × (first < 256) × (first ≡ chained (linksUpTo (chip (now file)) e) (linksBefore (chip (now file)) (512 * e))) ⌝ }
+    ensures { λ r. ⌜ r ≡ eventRecord (chip (now (file .entry))) e ⌝ }
 {
     [
         event::after(file, e) as u8,
@@ -50,8 +51,8 @@ pub fn event_record(file: &[u8], e: usize, first: usize) -> [u8; 8]
 
 // Writes the event records behind the header, where there are n events.
 pub fn write_events(out: &mut [u8], file: &[u8], ctrl: [[u8; 8]; 64], n: usize)
-    requires { ⌜ Source (now file) × (n ≡ newEvents (contents (now file))) × (edge ctrl ≡ ctrlInto (contents (now file))) × (8 + 8 * n ≤ length (now out)) ⌝ }
-    ensures { λ _. ⌜ now (out .exit) ≡ placed (now (out .entry)) 8 (eventRecords (translated (contents (now (file .entry)))) (suc n)) ⌝ }
+    requires { ⌜ Ready (now file) (edge ctrl) × (n ≡ newEvents (contents (now file))) × (8 + 8 * n ≤ length (now out)) ⌝ }
+    ensures { λ _. ⌜ now (out .exit) ≡ placed (now (out .entry)) 8 (eventRecords (chip (now (file .entry))) (suc n)) ⌝ }
 {
     let mut before: usize = 0;
     let mut e: usize = 1;
@@ -85,8 +86,8 @@ pub fn write_row(part: &mut [u8], row: [u8; 8], t: usize, last: usize, n: usize)
 
 // Writes the links into b, where n links come before them. Answers how many links then are written.
 pub fn write_into(part: &mut [u8], file: &[u8], ctrl: [[u8; 8]; 64], b: usize, n: usize) -> usize
-    requires { ⌜ Source (now file) × NewEvent (contents (now file)) b × (edge ctrl ≡ ctrlInto (contents (now file))) × (n ≡ linksBefore (translated (contents (now file))) (512 * b)) × (4 * linksUpTo (translated (contents (now file))) b ≤ length (now part)) ⌝ }
-    ensures { λ r. ⌜ (r ≡ linksUpTo (translated (contents (now (file .entry)))) b) × (now (part .exit) ≡ placed (now (part .entry)) (4 * n) (linkStretch (translated (contents (now (file .entry)))) (512 * b) 512)) ⌝ }
+    requires { ⌜ Ready (now file) (edge ctrl) × NewEvent (contents (now file)) b × (n ≡ linksBefore (chip (now file)) (512 * b)) × (4 * linksUpTo (chip (now file)) b ≤ length (now part)) ⌝ }
+    ensures { λ r. ⌜ (r ≡ linksUpTo (chip (now (file .entry))) b) × (now (part .exit) ≡ placed (now (part .entry)) (4 * n) (linkStretch (chip (now (file .entry))) (512 * b) 512)) ⌝ }
 {
     let last = link::links_up_to(file, ctrl, b, n);
     let mut m = n;
@@ -101,8 +102,8 @@ pub fn write_into(part: &mut [u8], file: &[u8], ctrl: [[u8; 8]; 64], b: usize, n
 
 // The link writer: writes the links at the start of the part that lies behind the events, where there are n events.
 pub fn write_links(part: &mut [u8], file: &[u8], ctrl: [[u8; 8]; 64], n: usize)
-    requires { ⌜ Source (now file) × (n ≡ newEvents (contents (now file))) × (edge ctrl ≡ ctrlInto (contents (now file))) × (4 * linksUpTo (translated (contents (now file))) n ≤ length (now part)) ⌝ }
-    ensures { λ _. ⌜ now (part .exit) ≡ placed (now (part .entry)) 0 (linkRecords (translated (contents (now (file .entry)))) (512 * suc n)) ⌝ }
+    requires { ⌜ Ready (now file) (edge ctrl) × (n ≡ newEvents (contents (now file))) × (4 * linksUpTo (chip (now file)) n ≤ length (now part)) ⌝ }
+    ensures { λ _. ⌜ now (part .exit) ≡ placed (now (part .entry)) 0 (linkRecords (chip (now (file .entry))) (512 * suc n)) ⌝ }
 {
     let mut m: usize = 0;
     let mut b: usize = 1;

@@ -20,7 +20,7 @@ new-events-requires : tie.Need-new-events-requires
 new-events-requires c κs = source-of _ _ (c .before .before .cause .ensures) (c .before .if1 .left)
 
 count-links-requires : tie.Need-count-links-requires
-count-links-requires c κs = (source-of _ _ (c .before .before .before .cause .ensures) (c .before .before .if1 .left), c .new-events .ensures .0, c .before .ctrl .ensures)
+count-links-requires c κs = (record { source = source-of _ _ (c .before .before .before .cause .ensures) (c .before .before .if1 .left); grid = c .before .ctrl .ensures }, c .new-events .ensures .0)
 
 mul-start : tie.Need-mul-start
 mul-start c = search needs
@@ -58,9 +58,8 @@ write-events-requires c κs =
     let enough = c .before .before .before .before .before .before .before in
     let counted = enough .before in
     let loaded = counted .before .before .before in (
-      source-of _ _ (loaded .before .cause .ensures) (loaded .if1 .left),
+      record { source = source-of _ _ (loaded .before .cause .ensures) (loaded .if1 .left); grid = counted .before .before .ctrl .ensures },
       counted .before .new-events .ensures .0,
-      counted .before .before .ctrl .ensures,
       events-room _ _ _ _ _ (enough .if2 .left) (c .before .before .before .put .ensures ∙ ap (placed _ 0) (c .before .before .before .before .before .before .header .ensures)),
     )
 
@@ -80,9 +79,8 @@ write-links-requires c κs =
     let enough = made .before in
     let counted = enough .before in
     let loaded = counted .before .before .before in (
-      source-of _ _ (loaded .before .cause .ensures) (loaded .if1 .left),
+      record { source = source-of _ _ (loaded .before .cause .ensures) (loaded .if1 .left); grid = counted .before .before .ctrl .ensures },
       counted .before .new-events .ensures .0,
-      counted .before .before .ctrl .ensures,
       links-part _ _ _ _ [] _ _ _ (loaded .before .cause .ensures) (loaded .if1 .left) (counted .before .new-events .ensures .0) (counted .count-links .ensures .0) (enough .if2 .left)
           (put .put .ensures ∙ ap (placed _ 0) (made .header .ensures)) (c .before .before .before .write-events .ensures),
     )

@@ -1,5 +1,4 @@
 -- `event::after` meets its contract: after an inserted fence, after a strong write, after any other event. Assumes nothing.
-use mathlib.Core.Path.{sym, _∙_}
 use native.Mathlib.Omega.{arith}
 use Rattle.translation.proofs.SourceFacts.{sized}
 use Rattle.translation.proofs.EventLaws.{fenced-event, after-fence, after-write, after-other}

@@ -1,5 +1,5 @@
 -- `event::fenced` meets its contract: no number before the one returned is such a write. Assumes nothing.
-use Prim.Native.Nat.{ℕ, _-_, _≤_}
+use Prim.Native.Nat.{_-_, _≤_}
 use Rattle.translation.proofs.EventLaws.{Passed, passed-none, passed-more, passed-here, passed-all}
 use borrow.Author.Needs.{needs}
 use Rattle.translation.proofs.event.fenced.Statement.{statement}

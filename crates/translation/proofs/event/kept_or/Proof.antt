@@ -1,6 +1,5 @@
 -- `event::kept_or` meets its contract. Assumes nothing.
 use native.Mathlib.Omega.{arith}
-use mathlib.Core.Path.{refl}
 use Rattle.translation.proofs.SourceFacts.{sized}
 use Rattle.translation.proofs.EventLaws.{fence-has, event-keeps}
 use Rattle.translation.proofs.event.kept_or.Statement.{statement}

@@ -1,6 +1,6 @@
 -- `event::strong_below` meets its contract: the count grows with each strong write passed. Assumes nothing.
 use mathlib.Core.Logic.{inl, inr}
-use Prim.Native.Nat.{ℕ, _-_, _≤_}
+use Prim.Native.Nat.{_-_, _≤_}
 use native.Mathlib.Omega.{arith}
 use Rattle.translation.proofs.SourceFacts.{sized}
 use Rattle.translation.proofs.EventLaws.{Counted, counted-none, counted-yes, counted-no, counted-all}

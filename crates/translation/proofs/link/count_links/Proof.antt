@@ -1,5 +1,5 @@
 -- `link::count_links` meets its contract, event by event. Assumes nothing.
-use Prim.Native.Nat.{ℕ, _+_, _-_, _≤_}
+use Prim.Native.Nat.{_+_, _-_, _≤_}
 use native.Mathlib.Omega.{arith}
 use Rattle.relation.specs.Bits.{edge}
 use Rattle.translation.proofs.Bounds.{most-events}
@@ -15,13 +15,13 @@ abbrev μ-loop : tie.MeasureT-loop
 μ-loop file ctrl n m₀ b₀ m b = n + 1 - b
 
 loop-holds : tie.Need-loop-holds Inv-loop μ-loop
-loop-holds c = (let start = c .before in (search needs, events-start _ _ _ (start .pre .0) (start .pre .1) (start .pre .2)))
+loop-holds c = (let start = c .before in (search needs, events-start _ _ _ (start .pre .0) (start .pre .1)))
 
 links-up-to-requires : tie.Need-links-up-to-requires Inv-loop μ-loop
-links-up-to-requires c κs = (let inv = c .before .loop .inv .1 in (inv .source, event-counted _ _ _ _ _ inv (c .loop-test .taken), inv .grid, inv .same))
+links-up-to-requires c κs = (let inv = c .before .loop .inv .1 in (inv .ready, event-counted _ _ _ _ _ inv (c .loop-test .taken), inv .same))
 
 add-b : tie.Need-add-b Inv-loop μ-loop
-add-b c = (let inv = c .before .before .loop .inv .1 in omega (arith, c .before .loop-test .taken, inv .events, most-events _ (inv .source)))
+add-b c = (let inv = c .before .before .loop .inv .1 in omega (arith, c .before .loop-test .taken, inv .events, most-events _ (inv .ready .source)))
 
 loop-less : tie.Need-loop-less Inv-loop μ-loop
 loop-less c = search needs

@@ -1,5 +1,5 @@
 -- `link::links_up_to` meets its contract, type by type. Assumes nothing.
-use Prim.Native.Nat.{ℕ, _-_, _≤_}
+use Prim.Native.Nat.{_-_, _≤_}
 use native.Mathlib.Omega.{arith}
 use Rattle.relation.specs.Bits.{edge}
 use Rattle.translation.proofs.LinkRows.{LinksCounted, links-start, links-more, links-few, links-all}
@@ -14,10 +14,10 @@ abbrev μ-loop : tie.MeasureT-loop
 μ-loop file ctrl b n m₀ t₀ m t = 8 - t
 
 loop-holds : tie.Need-loop-holds Inv-loop μ-loop
-loop-holds c = (let start = c .before in (search needs, links-start _ _ _ (start .pre .0) (start .pre .1) (start .pre .2) _ (start .pre .3)))
+loop-holds c = (let start = c .before in (search needs, links-start _ _ _ (start .pre .0) (start .pre .1) _ (start .pre .2)))
 
 sources-requires : tie.Need-sources-requires Inv-loop μ-loop
-sources-requires c κs = (let inv = c .before .loop .inv .1 in (inv .source, inv .event, inv .grid, search needs))
+sources-requires c κs = (let inv = c .before .loop .inv .1 in (inv .ready, inv .event, search needs))
 
 size-requires : tie.Need-size-requires Inv-loop μ-loop
 size-requires c κs = search needs

@@ -1,6 +1,5 @@
 -- `link::target_row` meets its contract, by cases. Assumes nothing.
 use mathlib.Core.Path.{sym, _∙_}
-use native.Mathlib.Omega.{arith}
 use borrow.Author.Tests.{not-true, not-false}
 use Rattle.recording.proofs.FieldLaws.{recorded-bounds}
 use Rattle.translation.proofs.SourceFacts.{sized}

@@ -1,5 +1,5 @@
 -- `link::target_rows` meets its contract, row by row. Assumes nothing.
-use Prim.Native.Nat.{ℕ, _-_, _≤_}
+use Prim.Native.Nat.{_-_, _≤_}
 use Rattle.relation.specs.Rel.{none}
 use Rattle.relation.proofs.GridLaws.{Rows, rows-none-of, rows-set, rows-all}
 use Rattle.translation.specs.Contents.{contents}

@@ -1,5 +1,5 @@
 -- `output::put` meets its contract, byte by byte. Assumes nothing.
-use Prim.Native.Nat.{ℕ, _-_, _≤_}
+use Prim.Native.Nat.{_-_, _≤_}
 use native.Mathlib.Omega.{arith}
 use lib.ListN.{length}
 use Rattle.translation.proofs.OutputLaws.{Putting, putting-none, putting-more, putting-all}

@@ -1,6 +1,6 @@
 -- `write::write_events` meets its contract, event by event. Assumes nothing.
 use mathlib.Core.Path.{ap, ap₂, _∙_}
-use Prim.Native.Nat.{ℕ, _+_, _-_, _≤_}
+use Prim.Native.Nat.{_+_, _-_, _≤_}
 use native.Mathlib.Omega.{arith}
 use Rattle.relation.specs.Bits.{edge}
 use Rattle.translation.specs.Encode.{chained}
@@ -20,10 +20,10 @@ abbrev μ-loop : tie.MeasureT-loop
 μ-loop out₀ file ctrl n before₀ e₀ out before e = n + 1 - e
 
 loop-holds : tie.Need-loop-holds Inv-loop μ-loop
-loop-holds c = (let pre = c .before .before .pre in (search needs, written-none _ _ _ _ (pre .0) (pre .1) (pre .2) (pre .3)))
+loop-holds c = (let pre = c .before .before .pre in (search needs, written-none _ _ _ _ (pre .0) (pre .1) (pre .2)))
 
 links-up-to-requires : tie.Need-links-up-to-requires Inv-loop μ-loop
-links-up-to-requires c κs = (let inv = c .before .loop .inv .1 .counted in (inv .source, event-counted _ _ _ _ _ inv (c .loop-test .taken), inv .grid, inv .same))
+links-up-to-requires c κs = (let inv = c .before .loop .inv .1 .counted in (inv .ready, event-counted _ _ _ _ _ inv (c .loop-test .taken), inv .same))
 
 chained-requires : tie.Need-chained-requires Inv-loop μ-loop
 chained-requires c κs = search needs
@@ -33,10 +33,10 @@ event-record-requires c κs =
     let turn = c .before .before in
     let inv = turn .before .loop .inv .1 .counted in
     let last = c .before .links-up-to .ensures in
-    (inv .source, event-counted _ _ _ _ _ inv (turn .loop-test .taken), omega (arith, c .chained .ensures .1, last .1), c .chained .ensures .0 ∙ ap₂ chained (last .0) (inv .same))
+    (inv .ready .source, event-counted _ _ _ _ _ inv (turn .loop-test .taken), omega (arith, c .chained .ensures .1, last .1), c .chained .ensures .0 ∙ ap₂ chained (last .0) (inv .same))
 
 mul-put : tie.Need-mul-put Inv-loop μ-loop
-mul-put c = (let turn = c .before .before .before .before in let inv = turn .before .loop .inv .1 .counted in omega (arith, turn .loop-test .taken, inv .events, most-events _ (inv .source)))
+mul-put c = (let turn = c .before .before .before .before in let inv = turn .before .loop .inv .1 .counted in omega (arith, turn .loop-test .taken, inv .events, most-events _ (inv .ready .source)))
 
 slice-aggregate-put : tie.Need-slice-aggregate-put Inv-loop μ-loop
 slice-aggregate-put c = search needs
@@ -49,7 +49,7 @@ put-requires c κs =
     omega (arith, turn .loop-test .taken, inv .room, inv .long, size)
 
 add-e : tie.Need-add-e Inv-loop μ-loop
-add-e c = (let turn = c .before .before .before .before .before .before .before .before in let inv = turn .before .loop .inv .1 .counted in omega (arith, turn .loop-test .taken, inv .events, most-events _ (inv .source)))
+add-e c = (let turn = c .before .before .before .before .before .before .before .before in let inv = turn .before .loop .inv .1 .counted in omega (arith, turn .loop-test .taken, inv .events, most-events _ (inv .ready .source)))
 
 loop-less : tie.Need-loop-less Inv-loop μ-loop
 loop-less c = search needs

@@ -1,5 +1,5 @@
 -- `write::write_into` meets its contract, type by type. Assumes nothing.
-use Prim.Native.Nat.{ℕ, _-_, _≤_}
+use Prim.Native.Nat.{_-_, _≤_}
 use native.Mathlib.Omega.{arith}
 use Rattle.relation.specs.Bits.{edge}
 use Rattle.translation.proofs.WriteLaws.{IntoWritten, into-none, into-room, into-more, into-all}
@@ -17,10 +17,10 @@ links-up-to-requires : tie.Need-links-up-to-requires Inv-loop μ-loop
 links-up-to-requires c κs = search needs
 
 loop-holds : tie.Need-loop-holds Inv-loop μ-loop
-loop-holds c = (let pre = c .before .before .before .pre in (search needs, into-none _ _ _ _ _ _ (pre .0) (pre .1) (pre .2) (pre .3) (pre .4) (c .links-up-to .ensures .0)))
+loop-holds c = (let pre = c .before .before .before .pre in (search needs, into-none _ _ _ _ _ _ (pre .0) (pre .1) (pre .2) (pre .3) (c .links-up-to .ensures .0)))
 
 sources-requires : tie.Need-sources-requires Inv-loop μ-loop
-sources-requires c κs = (let turn = c .before in let inv = turn .before .loop .inv .1 .counted in (inv .source, inv .event, inv .grid, turn .loop-test .taken))
+sources-requires c κs = (let turn = c .before in let inv = turn .before .loop .inv .1 .counted in (inv .ready, inv .event, turn .loop-test .taken))
 
 write-row-requires : tie.Need-write-row-requires Inv-loop μ-loop
 write-row-requires c κs =

@@ -1,5 +1,5 @@
 -- `write::write_links` meets its contract, event by event. Assumes nothing.
-use Prim.Native.Nat.{ℕ, _+_, _-_, _≤_}
+use Prim.Native.Nat.{_+_, _-_, _≤_}
 use native.Mathlib.Omega.{arith}
 use Rattle.relation.specs.Bits.{edge}
 use Rattle.translation.proofs.Bounds.{most-events}
@@ -16,17 +16,17 @@ abbrev μ-loop : tie.MeasureT-loop
 μ-loop part₀ file ctrl n m₀ b₀ part m b = n + 1 - b
 
 loop-holds : tie.Need-loop-holds Inv-loop μ-loop
-loop-holds c = (let pre = c .before .before .pre in (search needs, links-none _ _ _ _ (pre .0) (pre .1) (pre .2) (pre .3)))
+loop-holds c = (let pre = c .before .before .pre in (search needs, links-none _ _ _ _ (pre .0) (pre .1) (pre .2)))
 
 write-into-requires : tie.Need-write-into-requires Inv-loop μ-loop
 write-into-requires c κs =
     let turn = c .before in
     let inv = turn .before .loop .inv .1 in
     let counted = inv .counted in
-    (counted .source, event-counted _ _ _ _ _ counted (turn .loop-test .taken), counted .grid, counted .same, links-room _ _ _ _ _ _ _ inv (turn .loop-test .taken))
+    (counted .ready, event-counted _ _ _ _ _ counted (turn .loop-test .taken), counted .same, links-room _ _ _ _ _ _ _ inv (turn .loop-test .taken))
 
 add-b : tie.Need-add-b Inv-loop μ-loop
-add-b c = (let turn = c .before .before .before .before in let inv = turn .before .loop .inv .1 .counted in omega (arith, turn .loop-test .taken, inv .events, most-events _ (inv .source)))
+add-b c = (let turn = c .before .before .before .before in let inv = turn .before .loop .inv .1 .counted in omega (arith, turn .loop-test .taken, inv .events, most-events _ (inv .ready .source)))
 
 loop-less : tie.Need-loop-less Inv-loop μ-loop
 loop-less c = search needs

@@ -1,7 +1,7 @@
 -- `write::write_row` meets its contract, source by source. Assumes nothing.
 use mathlib.Core.Path.{refl, sym, _∙_}
 use mathlib.Core.Logic.{inl, inr}
-use Prim.Native.Nat.{ℕ, _-_, _≤_}
+use Prim.Native.Nat.{_-_, _≤_}
 use native.Mathlib.Omega.{arith}
 use Rattle.relation.specs.Bits.{bit}
 use Rattle.translation.proofs.WriteLaws.{RowWritten, row-start, row-room, row-yes, row-no, row-all}

@@ -1,0 +1,57 @@
+-- The theorems of the translation of a source file that loads (01, "The translation"). Assumes nothing.
+use mathlib.Core.Path.{_≡_}
+use mathlib.Core.List.{List}
+use Prim.Native.Nat.{ℕ, _≤_}
+use native.Mathlib.Omega.{arith}
+use lib.ListN.{length}
+use Rattle.relation.specs.Rel.{nodes}
+use Rattle.models.specs.Graph.{base}
+use Rattle.models.specs.Rules.{IMM, ARMv8, verdict}
+use Rattle.models.specs.Translated.{Translated}
+use Rattle.models.proofs.Sound.{verdict-sound}
+use Rattle.recording.specs.Layout.{kind, events, links}
+use Rattle.recording.specs.Decode.{decode}
+use Rattle.recording.specs.Causes.{refusal}
+use Rattle.recording.proofs.Loaded as loaded
+use Rattle.translation.specs.Translate.{translated}
+use Rattle.translation.specs.Answer.{chip, translation}
+use Rattle.translation.specs.Parts.{Source}
+use Rattle.translation.proofs.EncodeLaws.{encode-kind, encode-events, encode-links, encode-length}
+use Rattle.translation.proofs.Bounds.{most-events, most-links}
+use Rattle.translation.proofs.Loading.{translated-relates, translation-accepted}
+
+module _ (f : List ℕ) (loads : refusal f ≡ 0) (source : kind f ≡ 1) where
+  given : Source f
+  given = record { loads = loads; source = source }
+
+  -- Every translation of a recording that loads, loads.
+  pub translation-loads : refusal (translation f) ≡ 0
+  translation-loads = translation-accepted f given
+
+  pub translation-kind : kind (translation f) ≡ 2
+  unfolding translation translated
+  translation-kind = encode-kind (chip f)
+
+  -- "At most 48 events and 232 links arise", so at most 1,320 bytes.
+  pub few-events : events (translation f) ≤ 48
+  unfolding translation translated
+  few-events = omega (arith, encode-events (chip f), most-events f given)
+
+  pub few-links : links (translation f) ≤ 232
+  unfolding translation
+  few-links = omega (arith, encode-links (chip f), most-links f given (chip f .events))
+
+  pub few-bytes : length (translation f) ≤ 1320
+  unfolding translation translated
+  few-bytes = omega (arith, encode-length (chip f), most-events f given, most-links f given (chip f .events))
+
+  -- The translation is related to its source as the soundness of the mapping asks.
+  pub translation-related : Translated (decode f) (decode (translation f))
+  unfolding translation
+  translation-related = translated-relates f given
+
+  -- A source recording is allowed by IMM where ARMv8 allows its translation.
+  pub translation-sound : verdict nodes (base nodes (decode (translation f))) ARMv8 ≡ 0 → verdict nodes (base nodes (decode f)) IMM ≡ 0
+  translation-sound =
+      verdict-sound nodes nodes (decode f) (decode (translation f)) (loaded.loaded-within f loads) (loaded.loaded-within (translation f) translation-loads)
+      (loaded.loads f loads) translation-related
