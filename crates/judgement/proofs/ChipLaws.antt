@@ -18,13 +18,9 @@ use Rattle.verdict.specs.Answer.{refuses}
 use Rattle.execution.specs.OnFile.{OnFile}
 use Rattle.armv8.specs.Judged as armv8
 use Rattle.translation.specs.Answer.{translation, cause, answer, translationOf, filled, outputOf}
-use Rattle.translation.specs.Contents.{contents}
-use Rattle.translation.specs.Translate.{translated}
-use Rattle.translation.specs.Parts.{Source}
 use Rattle.translation.specs.declared.Translation.{Translation}
 use Rattle.translation.specs.declared.Translation.the-variants.{Refused, Written}
-use Rattle.translation.proofs.EncodeLaws.{encode-length}
-use Rattle.translation.proofs.Bounds.{most-events, most-links}
+use Rattle.translation.proofs.Theorems.{few-bytes}
 use Rattle.soundness.specs.Soundness.{LoadsAs}
 use Rattle.soundness.proofs.Proved.{soundness}
 use Rattle.judgement.specs.Judgement.{OnTranslation}
@@ -57,14 +53,8 @@ answer-refused zero n x p = absurd (let z : _≡_ {A = ℕ} 0 1 = cc in omega ar
 answer-refused (suc k) n x p = (cc, λ e. omega arith)
 
 module _ (f : List ℕ) where
-  -- A translation has at most 48 events and 232 links.
   translation-short : causeFor 1 f ≡ 0 → length (translation f) ≤ 1320
-  unfolding translation translated
-  translation-short p =
-      let l = loads-source f p in
-      let s : Source f = record { loads = l .loads; source = l .kind-is } in
-      let c = translated (contents f) in
-      omega (arith, encode-length c, most-events f s, most-links f s (c .events))
+  translation-short p = let l = loads-source f p in few-bytes f (l .loads) (l .kind-is)
 
   -- With that much room the output is never too short.
   enough : (room : ℕ) → 1320 ≤ room → cause f room ≡ causeFor 1 f

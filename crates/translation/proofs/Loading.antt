@@ -22,7 +22,7 @@ use Rattle.recording.specs.Decode.{decode}
 use Rattle.recording.specs.Causes.{eventLegal, legal, linkLegal, linkSound, oneSource, linksSoundAt, pairedAt, headerOver, allOf, rfLegal, sameLocations, tooShort, kindUnknown, overLimit, wrongLength, badEvent, badThreads, badChains, badLink, coRing, unpaired, refusal}
 use Rattle.recording.proofs.ChainLaws.{follow-in, follow-over}
 use Rattle.translation.specs.Contents.{Contents, contents}
-use Rattle.translation.specs.Translate.{strong, newEvents, after, newFlag, translated}
+use Rattle.translation.specs.Translate.{flagged, strong, newEvents, after, newFlag, translated}
 use Rattle.translation.specs.Encode.{linksBefore, linksUpTo, linkRecord, encode}
 use Rattle.translation.specs.Answer.{chip, translation}
 use Rattle.translation.specs.Parts.{Source}
@@ -231,7 +231,7 @@ module _ (f : List ℕ) (s : Source f) where
   unfolding translated
   none-strong e = is-false (strongWrite C e) (λ p. none (sym (flagged-says C (chip f) chip-says 2 e) ∙ p))
     where
-      none : Rattle.translation.specs.Translate.flagged (chip f) 2 e ≡ true → ⊥
+      none : flagged (chip f) 2 e ≡ true → ⊥
       none p =
           let w = flagged-is (chip f) 2 e p in
           elim (decLe e (old .events)) [

@@ -8,7 +8,7 @@ use native.Mathlib.Omega.{arith}
 use native.Mathlib.Decide.{ℕ-discrete, decLe}
 use lib.Dec.{T}
 use Rattle.relation.proofs.Meaning.{and-left, and-right, and-both}
-use Rattle.models.specs.Recording.{Recording, event, read, write, fence, access, exclusiveRead, strongWrite, releaseFence, fenceOf}
+use Rattle.models.specs.Recording.{Recording, event, ofClass, read, write, fence, access, exclusiveRead, strongWrite, releaseFence, fenceOf}
 use Rattle.models.specs.Translated.{Translated, Control, kept, after-read, after-pair, after-casdep}
 use Rattle.models.proofs.Tests.{or-left, or-right}
 use Rattle.models.proofs.Sets.{class-event, class-is, mode-intro, access-event, access-cases}
@@ -92,7 +92,7 @@ module _ (S C : Recording ℕ) (s : Contents) (p : Says S s) (q : Says C (transl
   same-location e h = kept-at (C .location) (S .location) (s .location) (s .location) 0 (q .location) (p .location) (λ x k. q .initial-location x k ∙ sym (p .initial-location x k)) e (event-says S s p e h) (λ _ _. refl)
 
   -- A recorded event of class k.
-  class-of : (k e : ℕ) → T (Rattle.models.specs.Recording.ofClass S k e) → 1 ≤ e → e ≤ s .events → s .class e ≡ k
+  class-of : (k e : ℕ) → T (ofClass S k e) → 1 ≤ e → e ≤ s .events → s .class e ≡ k
   class-of k e h i g = sym (p .class e i g) ∙ class-is S k e h
 
   access-not-fence : (e : ℕ) → T (access S e) → 1 ≤ e → e ≤ s .events → s .class e ≡ 3 → ⊥

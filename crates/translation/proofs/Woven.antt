@@ -3,7 +3,7 @@
 use mathlib.Core.Path.{_≡_, refl, sym, ap, subst, _∙_}
 use mathlib.Core.Bool.{Bool, true, false, not, _&&_, false≢true}
 use mathlib.Core.List.{List, [], _∷_, _++_}
-use mathlib.Core.Logic.{_⊎_, inl, inr}
+use mathlib.Core.Logic.{inl, inr}
 use Prim.Native.Nat.{ℕ, zero, suc, _<_, _≤_}
 use native.Mathlib.Omega.{arith}
 use native.Mathlib.Decide.{decLe}
@@ -13,6 +13,7 @@ use Rattle.relation.specs.Rel.{Set}
 use Rattle.relation.proofs.Meaning.{and-left, and-right, and-both}
 use Rattle.recording.specs.Chains.{among, chain, met, fresh, allMet, onceEach}
 use Rattle.recording.proofs.ChainLaws.{each-at}
+use Rattle.recording.proofs.Truth.{by-test}
 use Rattle.recording.proofs.Accepted.{each-all}
 use Rattle.recording.proofs.ChainFacts.{Ended, end, step, among-here, among-there, among-cases, Fresh, fresh-cons, fresh-length, chain-ended, chain-fresh, ended-walk, ended-positive}
 
@@ -41,18 +42,11 @@ module _ (s : Set) (new : ℕ → ℕ) where
   unfolding woven
   woven-no x l e = rw (e, woven)
 
-  pub by-cases : (x : ℕ) → (s x ≡ true) ⊎ (s x ≡ false)
-  by-cases x = go (s x) refl
-    where
-      go : (b : Bool) → s x ≡ b → (s x ≡ true) ⊎ (s x ≡ false)
-      go true e = inl e
-      go false e = inr e
-
   woven-append : (k l : List ℕ) → woven s new (k ++ l) ≡ woven s new k ++ woven s new l
   unfolding woven
   woven-append [] l = refl
   woven-append (x ∷ k) l =
-      elim (by-cases x) [
+      elim (by-test (s x)) [
         | inl e ↦ woven-yes x (k ++ l) e ∙ ap (λ (z : List ℕ). x ∷ new x ∷ z) (woven-append k l) ∙ sym (ap (λ (z : List ℕ). z ++ woven s new l) (woven-yes x k e))
         | inr e ↦ woven-no x (k ++ l) e ∙ ap (_∷_ x) (woven-append k l) ∙ sym (ap (λ (z : List ℕ). z ++ woven s new l) (woven-no x k e))
       ]
@@ -63,7 +57,7 @@ module _ (s : Set) (new : ℕ → ℕ) where
   woven-among y [] m = absurd (false≢true m)
   woven-among y (x ∷ l) m =
       let k = woven s new l in
-      elim (by-cases x) [
+      elim (by-test (s x)) [
         | inl e ↦ ap (among y) (woven-yes x l e)
             ∙ elim (among-cases y x l m) [
               | inl p ↦ among-here y x (new x ∷ k) p
@@ -78,7 +72,7 @@ module _ (s : Set) (new : ℕ → ℕ) where
   woven-new y [] h m = absurd (false≢true m)
   woven-new y (x ∷ l) h m =
       let k = woven s new l in
-      elim (by-cases x) [
+      elim (by-test (s x)) [
         | inl e ↦ ap (among (new y)) (woven-yes x l e)
             ∙ among-there (new y) x (new x ∷ k)
             (elim (among-cases y x l m) [
@@ -99,7 +93,7 @@ module _ (n m : ℕ) (next after : ℕ → ℕ) (s : Set) (new : ℕ → ℕ) (w
   woven-ended end = end
   woven-ended (step {x = x} {l = l} p q v) =
       let a = w .above x in
-      elim (by-cases s new x) [
+      elim (by-test (s x)) [
         | inl e ↦ subst (Ended m after x) (sym (woven-yes s new x l e))
             (step p (omega (arith, w .wider))
             (subst (λ (z : ℕ). Ended m after z (new x ∷ woven s new l)) (sym (w .into x e))
@@ -153,7 +147,7 @@ module _ (n m : ℕ) (next after : ℕ → ℕ) (s : Set) (new : ℕ → ℕ) (w
       let k = fresh-cons n seen x l f in
       let here : among x seen′ ≡ false = not-among x seen′ (λ p. false≢true (sym (k .new) ∙ v .low x (k .within) p)) in
       let old = seen-old x seen seen′ (k .within) v in
-      elim (by-cases s new x) [
+      elim (by-test (s x)) [
         | inl e ↦ (let a = w .above x e in
             let more = seen-new x (x ∷ seen) (x ∷ seen′) e (among-here x x seen refl) old in
             let there : among (new x) (x ∷ seen′) ≡ false = not-among (new x) (x ∷ seen′) (λ p. elim (among-cases (new x) x seen′ p) [
