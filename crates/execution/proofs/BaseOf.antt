@@ -8,7 +8,11 @@ use Rattle.models.specs.Recording.{Recording, SetName}
 use Rattle.models.specs.Graph.{Base, base}
 use Rattle.recording.specs.Decode.{decode}
 use Rattle.recording.specs.Load.{causeFor}
-use Rattle.verdict.specs.Answer.{refuses}
+use Rattle.models.specs.Rules.{Model, verdict}
+use Rattle.models.proofs.Agree.{recording-verdict}
+use Rattle.recording.proofs.Loaded.{loaded-within}
+use Rattle.recording.proofs.CauseLaws.{cause-goes-on}
+use Rattle.verdict.specs.Answer.{refuses, answers}
 use Rattle.verdict.specs.declared.Verdict.{Verdict}
 use Rattle.verdict.specs.Base.{baseOf}
 use Rattle.execution.specs.Arrays.{SetsOf, RelationsOf}
@@ -34,18 +38,25 @@ base-of r sets relations s t =
     }
 
 -- A verdict over the arrays of a file is one on the file.
-module _ (k : ℕ) (Judged : Base → Verdict → Type 0) (f : List ℕ) (v : Verdict) (n : ℕ) (cause : n ≡ causeFor k f) where
-  pub on-refused : (n ≡ 0 → ⊥) → v .answer ≡ refuses n → v .len ≡ 0 → OnFile k Judged f v
+module _ (k : ℕ) (M : Model) (Judged : Base → Verdict → Type 0) (f : List ℕ) (v : Verdict) (n : ℕ) (cause : n ≡ causeFor k f) where
+  pub on-refused : (n ≡ 0 → ⊥) → v .answer ≡ refuses n → v .len ≡ 0 → OnFile k M Judged f v
   on-refused d a l =
       record {
         refused = λ m e. (a ∙ ap refuses (cause ∙ e), l);
         judged = λ e. absurd (d (cause ∙ e));
       }
 
-  pub on-judged : n ≡ 0 → (sets : List (List ℕ)) (relations : List (List (List ℕ))) → SetsOf (decode f) sets
-      → RelationsOf (base nodes (decode f)) relations → Judged (baseOf sets relations) v → OnFile k Judged f v
-  on-judged z sets relations s t j =
+  pub on-judged : n ≡ 0 → ((B : Base) → Judged B v → v .answer ≡ answers (verdict nodes B M)) → (sets : List (List ℕ)) (relations : List (List (List ℕ)))
+      → SetsOf (decode f) sets → RelationsOf (base nodes (decode f)) relations → Judged (baseOf sets relations) v → OnFile k M Judged f v
+  on-judged z says sets relations s t j =
+      let shown : Judged (base nodes (decode f)) v = subst (λ (B : Base). Judged B v) (base-of (decode f) sets relations s t) j in
       record {
         refused = λ m e. absurd (let q : suc m ≡ 0 = sym e ∙ sym cause ∙ z in omega arith);
-        judged = λ e. subst (λ (B : Base). Judged B v) (base-of (decode f) sets relations s t) j;
+        judged = λ e.
+            record {
+              number = verdict nodes (base nodes (decode f)) M;
+              rules = recording-verdict nodes (decode f) (loaded-within f (cause-goes-on k f e .0)) M;
+              answer = says (base nodes (decode f)) shown;
+              shown = shown;
+            };
       }

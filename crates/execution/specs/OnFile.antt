@@ -3,13 +3,23 @@ use mathlib.Core.Path.{_≡_}
 use mathlib.Core.List.{List}
 use Prim.Native.Nat.{ℕ, suc}
 use Rattle.relation.specs.Rel.{nodes}
-use Rattle.models.specs.Graph.{Base, base}
+use Rattle.models.specs.Recording.{Recording}
+use Rattle.models.specs.Graph.{Base, base, graph}
+use Rattle.models.specs.Rules as models
 use Rattle.recording.specs.Decode.{decode}
 use Rattle.recording.specs.Load.{causeFor}
-use Rattle.verdict.specs.Answer.{refuses}
+use Rattle.verdict.specs.Answer.{refuses, answers}
 use Rattle.verdict.specs.declared.Verdict.{Verdict}
 
--- Refused with the number of the first cause, 11 for the other kind, and no event; else the model's verdict on the recording's execution.
-pub record OnFile (k : ℕ) (Judged : Base → Verdict → Type 0) (f : List ℕ) (v : Verdict) : Type 0 where
+-- v is the verdict of the model M on the recording r. Its answer is that of M's five rules, as statements about the execution graph of r:
+-- allowed where none fails, else broken with the first that does. What it shows is as `Judged` says.
+pub record OnRecording (M : models.Model) (Judged : Base → Verdict → Type 0) (r : Recording ℕ) (v : Verdict) : Type 0 where
+  pub number : ℕ
+  pub rules : models.Verdict M (graph r) number
+  pub answer : v .answer ≡ answers number
+  pub shown : Judged (base nodes r) v
+
+-- Refused with the number of the first cause, 11 for the other kind, and no event; else the model's verdict on the recording.
+pub record OnFile (k : ℕ) (M : models.Model) (Judged : Base → Verdict → Type 0) (f : List ℕ) (v : Verdict) : Type 0 where
   pub refused : (n : ℕ) → causeFor k f ≡ suc n → (v .answer ≡ refuses (suc n)) × (v .len ≡ 0)
-  pub judged : causeFor k f ≡ 0 → Judged (base nodes (decode f)) v
+  pub judged : causeFor k f ≡ 0 → OnRecording M Judged (decode f) v

@@ -6,8 +6,7 @@ use native.Mathlib.Omega.{arith}
 use borrow.Author.Tests.{le-ltb, eq-eqb, ne-eqb}
 use lib.ListN.{length, take, drop, length-append}
 use lib.Seq.{take-append-seam}
-use Rattle.relation.specs.Rel.{nodes}
-use Rattle.models.specs.Graph.{base}
+use Rattle.models.specs.Rules.{ARMv8}
 use Rattle.recording.specs.Layout.{kind}
 use Rattle.recording.specs.Decode.{decode}
 use Rattle.recording.specs.Causes.{refusal}
@@ -15,7 +14,7 @@ use Rattle.recording.specs.Load.{causeFor}
 use Rattle.recording.proofs.CauseLaws.{cause-goes-on}
 use Rattle.verdict.specs.declared.Verdict.{Verdict}
 use Rattle.verdict.specs.Answer.{refuses}
-use Rattle.execution.specs.OnFile.{OnFile}
+use Rattle.execution.specs.OnFile.{OnRecording, OnFile}
 use Rattle.armv8.specs.Judged as armv8
 use Rattle.translation.specs.Answer.{translation, cause, answer, translationOf, filled, outputOf}
 use Rattle.translation.specs.declared.Translation.{Translation}
@@ -111,11 +110,11 @@ module _ (f : List ℕ) where
       }
 
   -- A verdict on the bytes of the translation.
-  pub chip-judged : (g : List ℕ) (v : Verdict) → causeFor 1 f ≡ 0 → g ≡ translation f → OnFile 2 armv8.Judged g v → OnTranslation f v
+  pub chip-judged : (g : List ℕ) (v : Verdict) → causeFor 1 f ≡ 0 → g ≡ translation f → OnFile 2 ARMv8 armv8.Judged g v → OnTranslation f v
   chip-judged g v p e on =
       let t = soundness f (loads-source f p) .translation-loads in
       let goes-on : causeFor 2 g ≡ 0 = ap (causeFor 2) e ∙ cause-own 2 (translation f) (t .loads) (t .kind-is) in
       record {
         refused = λ n c. absurd (let z : suc n ≡ 0 = sym c ∙ p in omega arith);
-        judged = λ c. subst (λ (b : List ℕ). armv8.Judged (base nodes (decode b)) v) e (on .judged goes-on);
+        judged = λ c. subst (λ (b : List ℕ). OnRecording ARMv8 armv8.Judged (decode b) v) e (on .judged goes-on);
       }

@@ -39,14 +39,14 @@ module _ (k : ℕ) (f : List ℕ) (v : Verdict) where
       go zero e = judged e
       go (suc n) e = omega (arith, refused n e)
 
-  pub imm-bounded : OnFile k imm.Judged f v → v .len ≤ 64
-  imm-bounded on = bounded (λ n e. on .refused n e .1) (λ e. on .judged e .bound)
+  pub imm-bounded : OnFile k IMM imm.Judged f v → v .len ≤ 64
+  imm-bounded on = bounded (λ n e. on .refused n e .1) (λ e. on .judged e .shown .bound)
 
-  pub armv8-bounded : OnFile k armv8.Judged f v → v .len ≤ 64
-  armv8-bounded on = bounded (λ n e. on .refused n e .1) (λ e. on .judged e .bound)
+  pub armv8-bounded : OnFile k ARMv8 armv8.Judged f v → v .len ≤ 64
+  armv8-bounded on = bounded (λ n e. on .refused n e .1) (λ e. on .judged e .shown .bound)
 
 pub chip-bounded : (f : List ℕ) (v : Verdict) → OnTranslation f v → v .len ≤ 64
-chip-bounded f v on = bounded 1 f v (λ n e. on .refused n e .1) (λ e. on .judged e .bound)
+chip-bounded f v on = bounded 1 f v (λ n e. on .refused n e .1) (λ e. on .judged e .shown .bound)
 
 answers-allowed : (k : ℕ) → answers k ≡ Allowed → k ≡ 0
 answers-allowed zero p = refl
@@ -56,30 +56,38 @@ answers-allowed (suc k) p = absurd (let z : _≡_ {A = ℕ} 0 1 = cc in omega ar
 refused-line : (word : List ℕ) (n : ℕ) (v : Verdict) → v .answer ≡ refuses n → v .len ≡ 0 → lineFor word v ≡ lineOf word (refuses n) []
 refused-line word n v a l = ap₂ (lineOf word) a (ap (λ (m : ℕ). take m (v .at)) l)
 
+-- Demand 3, for the verdicts on a source file and on its translation.
+pub both-sound : (f : List ℕ) (v w : Verdict) → OnFile 1 IMM imm.Judged f v → OnTranslation f w → w .answer ≡ Allowed → v .answer ≡ Allowed
+unfolding immVerdict armv8Verdict
+both-sound f v w on chip-on h = go (causeFor 1 f) refl
+  where
+    go : (n : ℕ) → causeFor 1 f ≡ n → v .answer ≡ Allowed
+    go zero p =
+        let allowed = answers-allowed _ (sym (chip-on .judged p .shown .answer) ∙ h) in
+        on .judged p .shown .answer ∙ ap answers (soundness f (loads-source f p) .allowed-back allowed)
+    go (suc n) p = absurd (let refused = sym (chip-on .refused n p .0) ∙ h in let z : _≡_ {A = ℕ} 0 1 = cc in omega arith)
+
 module _ (f : List ℕ) where
-  pub source-lines : (v w : Verdict) (first second : List ℕ) → causeFor 1 f ≡ 0 → OnFile 1 imm.Judged f v → OnTranslation f w
+  pub source-lines : (v w : Verdict) (first second : List ℕ) → causeFor 1 f ≡ 0 → OnFile 1 IMM imm.Judged f v → OnTranslation f w
       → first ≡ lineFor source v → second ≡ lineFor chip w → Prints f (first ++ second)
-  unfolding immVerdict armv8Verdict
   source-lines v w first second p on chip-on a b =
       let s = loads-source f p in
-      let judged = on .judged p in
-      let judged-chip = chip-on .judged p in
       record {
         refused = λ n e. absurd (let z : suc n ≡ 0 = sym e ∙ s .loads in omega arith);
         on-source = λ e q.
             record {
               on-source = v;
               on-chip = w;
-              judged = judged;
-              judged-chip = judged-chip;
-              sound = λ h. judged .answer ∙ ap answers (soundness f s .allowed-back (answers-allowed _ (sym (judged-chip .answer) ∙ h)));
+              judged = on .judged p;
+              judged-chip = chip-on .judged p;
+              sound = both-sound f v w on chip-on;
               prints = ap₂ (λ (x y : List ℕ). x ++ y) a b;
             };
         on-chip = λ e q. absurd (let z : 2 ≡ 1 = sym q ∙ s .kind-is in omega arith);
       }
 
   module _ (k : ℕ) (p : k ≡ causeFor 1 f) (w : Verdict) (text : List ℕ) (is : text ≡ lineFor chip w) where
-    pub chip-line : k ≡ 11 → OnFile 2 armv8.Judged f w → Prints f text
+    pub chip-line : k ≡ 11 → OnFile 2 ARMv8 armv8.Judged f w → Prints f text
     chip-line q on =
         record {
           refused = λ n e. let (a, l) = on .refused n (cause-refused 2 f n e) in is ∙ refused-line chip (suc n) w a l;

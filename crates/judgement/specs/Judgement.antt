@@ -4,8 +4,7 @@ use mathlib.Core.List.{List, [], _++_}
 use Prim.Native.Nat.{ℕ, suc, _≤_, _<_}
 use lib.ListN.{length}
 use lib.Seq.{sets}
-use Rattle.relation.specs.Rel.{nodes}
-use Rattle.models.specs.Graph.{base}
+use Rattle.models.specs.Rules.{IMM, ARMv8}
 use Rattle.recording.specs.Layout.{kind}
 use Rattle.recording.specs.Decode.{decode}
 use Rattle.recording.specs.Causes.{refusal}
@@ -14,15 +13,16 @@ use Rattle.verdict.specs.declared.Verdict.{Verdict}
 use Rattle.verdict.specs.declared.Answer.the-variants.{Allowed}
 use Rattle.verdict.specs.Answer.{refuses}
 use Rattle.verdict.specs.Shown.{events}
+use Rattle.execution.specs.OnFile.{OnRecording}
 use Rattle.imm.specs.Judged as imm
 use Rattle.armv8.specs.Judged as armv8
 use Rattle.translation.specs.Answer.{translation}
-use Rattle.lines.specs.Lines.{modelWord, source, chip, lineOf}
+use Rattle.lines.specs.Lines.{source, chip, lineOf}
 
 -- v is the ARMv8 verdict on the translation of the source file f; it is refused as the translation is.
 pub record OnTranslation (f : List ℕ) (v : Verdict) : Type 0 where
   pub refused : (n : ℕ) → causeFor 1 f ≡ suc n → (v .answer ≡ refuses (suc n)) × (v .len ≡ 0)
-  pub judged : causeFor 1 f ≡ 0 → armv8.Judged (base nodes (decode (translation f))) v
+  pub judged : causeFor 1 f ≡ 0 → OnRecording ARMv8 armv8.Judged (decode (translation f)) v
 
 -- The line of a verdict.
 abbrev pub lineFor : List ℕ → Verdict → List ℕ
@@ -32,18 +32,18 @@ lineFor word v = lineOf word (v .answer) (events v)
 pub record SourceLines (f text : List ℕ) : Type 0 where
   pub on-source : Verdict
   pub on-chip : Verdict
-  pub judged : imm.Judged (base nodes (decode f)) on-source
-  pub judged-chip : armv8.Judged (base nodes (decode (translation f))) on-chip
+  pub judged : OnRecording IMM imm.Judged (decode f) on-source
+  pub judged-chip : OnRecording ARMv8 armv8.Judged (decode (translation f)) on-chip
   pub sound : on-chip .answer ≡ Allowed → on-source .answer ≡ Allowed
   pub prints : text ≡ lineFor source on-source ++ lineFor chip on-chip
 
 -- "kind 2 a chip line"
 pub record ChipLine (f text : List ℕ) : Type 0 where
   pub on-chip : Verdict
-  pub judged-chip : armv8.Judged (base nodes (decode f)) on-chip
+  pub judged-chip : OnRecording ARMv8 armv8.Judged (decode f) on-chip
   pub prints : text ≡ lineFor chip on-chip
 
--- The text is what the judge prints of the file f. Which ring is shown is free; all else is fixed.
+-- The text is what the judge prints of the file f. Which ring is shown is free; all else is fixed. A refusal's line has no model's word.
 pub record Prints (f text : List ℕ) : Type 0 where
   pub refused : (n : ℕ) → refusal f ≡ suc n → text ≡ lineOf chip (refuses (suc n)) []
   pub on-source : refusal f ≡ 0 → kind f ≡ 1 → SourceLines f text

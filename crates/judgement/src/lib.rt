@@ -8,9 +8,19 @@ use verdict::Verdict;
 ghost use mathlib.Core.Path.{_≡_};
 ghost use mathlib.Core.List.{_++_};
 ghost use Prim.Native.Nat.{_≤_};
+ghost use Rattle.models.specs.Rules.{IMM};
 ghost use Rattle.verdict.specs.Answer.{refuses};
+ghost use Rattle.verdict.specs.declared.Answer.the-variants.{Allowed};
+ghost use Rattle.execution.specs.OnFile.{OnFile};
+ghost use Rattle.imm.specs.Judged.{Judged};
 ghost use Rattle.lines.specs.Put.{bytes};
 ghost use Rattle.judgement.specs.Judgement.{OnTranslation, Prints, Answers};
+
+// The verdicts on a source file and on its translation.
+pub struct Verdicts {
+    pub source: Verdict,
+    pub chip: Verdict,
+}
 
 // The lines of a file; the second is empty where there is one only.
 pub struct Lines {
@@ -40,6 +50,18 @@ pub fn chip(file: &[u8]) -> Verdict
     }
 }
 
+// The verdicts on a source file and on its translation. Where the translation is allowed, so is the source (demand 3).
+pub fn both(file: &[u8]) -> Verdicts
+    ensures source { λ r. ⌜ OnFile 1 IMM Judged (now (file .entry)) (r .source) ⌝ }
+    ensures chip { λ r. ⌜ OnTranslation (now (file .entry)) (r .chip) ⌝ }
+    ensures sound { λ r. ⌜ (r .chip .answer ≡ Allowed → r .source .answer ≡ Allowed) ⌝ }
+{
+    Verdicts {
+        source: imm::file::verdict(file),
+        chip: chip(file),
+    }
+}
+
 // One line.
 fn single(text: Text) -> Lines
     requires { ⌜ text .len ≤ 320 ⌝ }
@@ -62,8 +84,9 @@ pub fn printed(file: &[u8]) -> Lines
 {
     let k = causes::cause(file, 1);
     if k == 0 {
-        let first = lines::line(false, imm::file::verdict(file));
-        let second = lines::line(true, chip(file));
+        let verdicts = both(file);
+        let first = lines::line(false, verdicts.source);
+        let second = lines::line(true, verdicts.chip);
         return Lines { first, second };
     }
     if k == 11 {

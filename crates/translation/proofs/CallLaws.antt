@@ -12,6 +12,7 @@ use lib.Seq.{take-all, drop-drop}
 use Rattle.recording.specs.Layout.{kind}
 use Rattle.recording.specs.Causes.{refusal}
 use Rattle.recording.specs.Load.{causeFor}
+use Rattle.recording.proofs.CauseLaws.{cause-goes-on}
 use Rattle.translation.specs.Contents.{contents}
 use Rattle.translation.specs.Translate.{newEvents, translated}
 use Rattle.translation.specs.Encode.{linksUpTo, header, eventRecords, linkRecords, encode}
@@ -25,16 +26,7 @@ use Rattle.translation.proofs.OutputLaws.{placed-placed, length-placed}
 module _ (f : List ℕ) where
   -- Where no cause of loading applies and the kind is 1.
   pub source-of : (k : ℕ) → k ≡ causeFor 1 f → k ≡ 0 → Source f
-  unfolding causeFor
-  source-of k p q = go (refusal f) refl (sym p ∙ q)
-    where
-      kinds : (b : Bool) → eqb (kind f) 1 ≡ b → _≡_ {A = ℕ} (elim b [ true ↦ 0 | false ↦ 11 ]) 0 → kind f ≡ 1
-      kinds true e _ = eqb-true (kind f) 1 e
-      kinds false e z = absurd (omega arith)
-
-      go : (r : ℕ) → refusal f ≡ r → _≡_ {A = ℕ} (elim r [ zero ↦ elim (eqb (kind f) 1) [ true ↦ 0 | false ↦ 11 ] | suc n ↦ suc n ]) 0 → Source f
-      go zero e z = record { loads = e; source = kinds (eqb (kind f) 1) refl z }
-      go (suc n) e z = absurd (omega arith)
+  source-of k p q = let w = cause-goes-on 1 f (sym p ∙ q) in record { loads = w .0; source = w .1 }
 
   -- Refused: the number, and the output as it was.
   pub record Answers (out : List ℕ) (r : Translation) (after : List ℕ) : Type 0 where

@@ -4,37 +4,33 @@ use Rattle.judgement.proofs.PrintLaws.{imm-bounded, armv8-bounded, chip
 use borrow.Author.Needs.{needs}
 use Rattle.judgement.proofs.printed.Statement.{statement}
 use Rattle.judgement.proofs.printed.Tie as tie
-use Rattle.imm.proofs.file.verdict.Reads as file-verdict-reads′
 
 cause-requires : tie.Need-cause-requires
 cause-requires c κs = search needs
 
+both-requires : tie.Need-both-requires
+both-requires c κs = search needs
+
+line-requires : tie.Need-line-requires
+line-requires c κs = imm-bounded _ _ _ (c .both .ensures .0)
+
+line-requires-2 : tie.Need-line-requires-2
+line-requires-2 c κs = chip-bounded _ _ (c .before .both .ensures .1 .0)
+
+returns : tie.Need-returns
+returns c = (let v = c .before .before in (source-lines _ _ _ _ _ (sym (v .before .before .cause .ensures) ∙ v .before .if1 .taken) (v .both .ensures .0) (v .both .ensures .1 .0) (c .before .line .ensures .0) (c .line2 .ensures .0), (c .before .line .ensures .1, c .line2 .ensures .1)))
+
 verdict-requires : tie.Need-verdict-requires
 verdict-requires c κs = search needs
 
-line-requires : tie.Need-line-requires
-line-requires c κs = imm-bounded _ _ _ (c .verdict .ensures)
-
-chip-requires : tie.Need-chip-requires
-chip-requires c κs = search needs
-
-line-requires-2 : tie.Need-line-requires-2
-line-requires-2 c κs = chip-bounded _ _ (c .chip .ensures)
-
-returns : tie.Need-returns
-returns c = (let v = c .before .before .before in (source-lines _ _ _ _ _ (sym (v .before .before .cause .ensures) ∙ v .before .if1 .taken) (v .verdict .ensures) (c .before .chip .ensures) (c .before .before .line .ensures .0) (c .line2 .ensures .0), (c .before .before .line .ensures .1, c .line2 .ensures .1)))
-
-verdict-requires-2 : tie.Need-verdict-requires-2
-verdict-requires-2 c κs = search needs
-
 line-requires-3 : tie.Need-line-requires-3
-line-requires-3 c κs = armv8-bounded _ _ _ (c .verdict2 .ensures)
+line-requires-3 c κs = armv8-bounded _ _ _ (c .verdict .ensures)
 
 single-requires : tie.Need-single-requires
 single-requires c κs = search needs
 
 returns-2 : tie.Need-returns-2
-returns-2 c = (let v = c .before .before in (chip-line _ _ (v .before .before .before .cause .ensures) _ _ (c .single .ensures .0 ∙ c .before .line3 .ensures .0) (v .before .if2 .taken) (v .verdict2 .ensures), c .single .ensures .1))
+returns-2 c = (let v = c .before .before in (chip-line _ _ (v .before .before .before .cause .ensures) _ _ (c .single .ensures .0 ∙ c .before .line3 .ensures .0) (v .before .if2 .taken) (v .verdict .ensures), c .single .ensures .1))
 
 refused-requires : tie.Need-refused-requires
 refused-requires c κs = search needs
@@ -53,12 +49,11 @@ printed-spec =
     tie.close
     (tie.spec
     cause-requires
-    verdict-requires
+    both-requires
     line-requires
-    chip-requires
     line-requires-2
     returns
-    verdict-requires-2
+    verdict-requires
     line-requires-3
     single-requires
     returns-2

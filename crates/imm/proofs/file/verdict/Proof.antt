@@ -11,7 +11,7 @@ cause-requires : tie.Need-cause-requires
 cause-requires c κs = search needs
 
 returns : tie.Need-returns
-returns c = on-refused _ Judged _ _ _ (c .before .cause .ensures) (c .if1 .taken) refl refl
+returns c = on-refused _ _ Judged _ _ _ (c .before .cause .ensures) (c .if1 .taken) refl refl
 
 sets-requires : tie.Need-sets-requires
 sets-requires c κs = cause-goes-on 1 _ (sym (c .before .cause .ensures) ∙ c .if1 .left) .0
@@ -24,7 +24,7 @@ judge-requires c κs = search needs
 
 returns-2 : tie.Need-returns-2
 returns-2 c =
-    on-judged _ Judged _ _ _ (c .before .before .before .before .cause .ensures) (c .before .before .before .if1 .left) _ _
+    on-judged _ _ Judged _ _ _ (c .before .before .before .before .cause .ensures) (c .before .before .before .if1 .left) (λ B j. j .answer) _ _
     (c .before .before .sets .ensures) (c .before .relations .ensures) (c .judge .ensures)
 
 pub verdict-spec : {M : Type 1} → statement M
