@@ -96,7 +96,7 @@ pub fn co_ring(file: &[u8]) -> bool
     row::first(grid::diagonal(graph::coherence(file))) < 64
 }
 
-// Whether the thread chains meet every event once.
+// Whether the thread chains meet every event once: four heads from byte 4 on, event records of 8 bytes from byte 8 on.
 pub fn threads_sound(file: &[u8]) -> bool
     requires { ⌜ Sized (now file) ⌝ }
     ensures { λ r. ⌜ not r ≡ badThreads (now (file .entry)) ⌝ }
@@ -105,7 +105,8 @@ pub fn threads_sound(file: &[u8]) -> bool
     chain::once_each(file, 4, 1, 4, 8, 8, n)
 }
 
-// Whether the event chains meet every link once.
+// Whether the event chains meet every link once: the first link into an event is the last byte of its record, byte 15 for event 1;
+// link records of 4 bytes stand behind the event records.
 pub fn chains_sound(file: &[u8]) -> bool
     requires { ⌜ Sized (now file) ⌝ }
     ensures { λ r. ⌜ not r ≡ badChains (now (file .entry)) ⌝ }
@@ -141,12 +142,14 @@ pub fn body_refusal(file: &[u8]) -> u8
     0
 }
 
+// Whether the kind is source or chip.
 pub fn known(kind: usize) -> bool
     ensures { λ r. ⌜ r ≡ kindKnown kind ⌝ }
 {
     kind == 1 || kind == 2
 }
 
+// The most event records of a file of this kind.
 pub fn most_events(kind: usize) -> usize
     ensures { λ r. ⌜ r ≡ mostEvents kind ⌝ }
 {
@@ -156,6 +159,7 @@ pub fn most_events(kind: usize) -> usize
     48
 }
 
+// The most link records of a file of this kind.
 pub fn most_links(kind: usize) -> usize
     ensures { λ r. ⌜ r ≡ mostLinks kind ⌝ }
 {

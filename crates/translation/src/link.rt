@@ -47,6 +47,7 @@ pub fn target_row(file: &[u8], exclusive: bool, e: usize) -> [u8; 8]
     row::with(row::none(), event::after(file, e))
 }
 
+// The same for every event, as a grid.
 pub fn target_rows(file: &[u8], exclusive: bool) -> [[u8; 8]; 64]
     requires { ⌜ Source (now file) ⌝ }
     ensures { λ r. ⌜ edge r ≡ targets (contents (now (file .entry))) exclusive ⌝ }
