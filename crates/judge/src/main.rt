@@ -3,11 +3,22 @@
 
 use libc::STDIN_FILENO;
 use libc::STDOUT_FILENO;
+use lines::Text;
+ghost use Prim.Native.Nat.{_≤_};
+
+// Prints a text.
+fn print(text: Text)
+    requires { ⌜ text .len ≤ 320 ⌝ }
+{
+    let at = text.at;
+    let n = text.len;
+    io::write_all(STDOUT_FILENO, &at[..n]);
+}
 
 fn main() {
     let mut file = [0u8; 1413];
     let n = io::read_full(STDIN_FILENO, &mut file);
-    let mut text = [0u8; 640];
-    let m = judgement::judge(&file[..n], &mut text);
-    io::write_all(STDOUT_FILENO, &text[..m]);
+    let text = judgement::printed(&file[..n]);
+    print(text.first);
+    print(text.second);
 }

@@ -1,11 +1,9 @@
--- Laws of the lines that are printed: which they are by the number that loading as a source gives, and how they are stored. Assumes nothing.
+-- Laws of the lines that are printed: which they are by the number that loading as a source gives. Assumes nothing.
 use mathlib.Core.Path.{_≡_, refl, sym, ap, ap₂, subst, _∙_}
-use mathlib.Core.List.{List, [], _∷_, _++_}
-use Prim.Native.Nat.{ℕ, zero, suc, _+_, _<_, _≤_}
+use mathlib.Core.List.{List, [], _++_}
+use Prim.Native.Nat.{ℕ, zero, suc, _≤_}
 use native.Mathlib.Omega.{arith}
-use native.Mathlib.Decide.{decLt}
-use lib.ListN.{length, take, set, length-append}
-use lib.Seq.{sets, length-sets, length-take-le}
+use lib.ListN.{take}
 use Rattle.relation.specs.Rel.{nodes}
 use Rattle.models.specs.Graph.{Base, base}
 use Rattle.models.specs.Rules.{IMM, ARMv8, verdict}
@@ -22,12 +20,10 @@ use Rattle.execution.specs.OnFile.{OnFile}
 use Rattle.imm.specs.Judged as imm
 use Rattle.armv8.specs.Judged as armv8
 use Rattle.translation.specs.Answer.{translation}
-use Rattle.lines.specs.declared.Text.{Text}
 use Rattle.lines.specs.Lines.{source, chip, lineOf}
-use Rattle.lines.specs.Put.{bytes}
 use Rattle.soundness.specs.Soundness.{immVerdict, armv8Verdict}
 use Rattle.soundness.proofs.Proved.{soundness}
-use Rattle.judgement.specs.Judgement.{OnTranslation, lineFor, SourceLines, ChipLine, Prints, Stored, Answers}
+use Rattle.judgement.specs.Judgement.{OnTranslation, lineFor, SourceLines, ChipLine, Prints}
 use Rattle.judgement.proofs.ChipLaws.{cause-refused, cause-own, cause-other, loads-source}
 
 -- A verdict on a file shows at most 64 events.
@@ -102,50 +98,3 @@ module _ (f : List ℕ) where
           on-source = λ e h. absurd (d (p ∙ cause-own 1 f e h));
           on-chip = λ e h. absurd (d′ (p ∙ cause-other 1 f e (λ (u : kind f ≡ 1). let z : 2 ≡ 1 = sym h ∙ u in omega arith)));
         }
-
--- Stored in two goes.
-sets-append : (l : List ℕ) (i : ℕ) (a b : List ℕ) → sets (sets l i a) (i + length a) b ≡ sets l i (a ++ b)
-sets-append l i [] b = ap (λ (k : ℕ). sets l k b) (omega arith)
-sets-append l i (x ∷ a) b = ap (λ (k : ℕ). sets (sets (set l i x) (suc i) a) k b) (omega arith) ∙ sets-append (set l i x) (suc i) a b
-
-module _ (f out : List ℕ) (t u : Text) (long : length (t .at) ≡ 320) (long′ : length (u .at) ≡ 320) (h : t .len ≤ 320) (h′ : u .len ≤ 320)
-    (printed : Prints f (bytes t ++ bytes u)) where
-  sizes : length (bytes t ++ bytes u) ≡ t .len + u .len
-  sizes = omega (arith, length-append (bytes t) (bytes u), length-take-le (t .len) (t .at) (omega arith), length-take-le (u .len) (u .at) (omega arith))
-
-  pub stored-short : length out < t .len + u .len → Answers f out 0 out
-  stored-short lt =
-      record {
-        text = bytes t ++ bytes u;
-        printed = printed;
-        stored = record { fits = λ g. absurd (omega (arith, sizes)); short = λ g. (refl, refl) };
-      }
-
-  pub stored-both : (n m : ℕ) (middle left : List ℕ) → t .len + u .len ≤ length out → n ≡ 0 + t .len → middle ≡ sets out 0 (bytes t)
-      → m ≡ n + u .len → left ≡ sets middle n (bytes u) → Answers f out m left
-  stored-both n m middle left le a b c d =
-      let size : length (bytes t) ≡ t .len = length-take-le (t .len) (t .at) (omega arith) in
-      let from : n ≡ 0 + length (bytes t) = omega (arith, a, size) in
-      record {
-        text = bytes t ++ bytes u;
-        printed = printed;
-        stored = record {
-          fits = λ g. (omega (arith, sizes, a, c), d ∙ ap₂ (λ (l : List ℕ) (k : ℕ). sets l k (bytes u)) b from ∙ sets-append out 0 (bytes t) (bytes u));
-          short = λ g. absurd (omega (arith, sizes));
-        };
-      }
-
--- The answer counts bytes at the start of the output.
-module _ (f out : List ℕ) (n : ℕ) (left : List ℕ) (a : Answers f out n left) where
-  pub answered-within : n ≤ length left
-  answered-within =
-      elim (decLt (length out) (length (a .text))) [
-        | yes lt ↦ omega (arith, a .stored .short lt .0)
-        | no ge ↦ fitted (omega (arith, ge))
-      ]
-    where
-      fitted : length (a .text) ≤ length out → n ≤ length left
-      fitted h = let w = a .stored .fits h in omega (arith, w .0, ap length (w .1), length-sets out 0 (a .text))
-
-  pub answered-size : n ≡ length (take n left)
-  answered-size = sym (length-take-le n left answered-within)

@@ -1,9 +1,7 @@
 -- What the judge says of a file as a whole (01, "What is shown"): the verdict on a translation, and the lines that are printed. Assumes nothing.
 use mathlib.Core.Path.{_≡_}
 use mathlib.Core.List.{List, [], _++_}
-use Prim.Native.Nat.{ℕ, suc, _≤_, _<_}
-use lib.ListN.{length}
-use lib.Seq.{sets}
+use Prim.Native.Nat.{ℕ, suc}
 use Rattle.models.specs.Rules.{IMM, ARMv8}
 use Rattle.recording.specs.Layout.{kind}
 use Rattle.recording.specs.Decode.{decode}
@@ -48,15 +46,3 @@ pub record Prints (f text : List ℕ) : Type 0 where
   pub refused : (n : ℕ) → refusal f ≡ suc n → text ≡ lineOf chip (refuses (suc n)) []
   pub on-source : refusal f ≡ 0 → kind f ≡ 1 → SourceLines f text
   pub on-chip : refusal f ≡ 0 → kind f ≡ 2 → ChipLine f text
-
--- Of a text that goes to an output, whose length is answered: where it fits it fills the start and later bytes stay,
--- and else the answer is 0 and all bytes stay.
-pub record Stored (text out : List ℕ) (answer : ℕ) (left : List ℕ) : Type 0 where
-  pub fits : length text ≤ length out → (answer ≡ length text) × (left ≡ sets out 0 text)
-  pub short : length out < length text → (answer ≡ 0) × (left ≡ out)
-
--- What the judge prints of the file f goes to the output.
-pub record Answers (f out : List ℕ) (answer : ℕ) (left : List ℕ) : Type 0 where
-  pub text : List ℕ
-  pub printed : Prints f text
-  pub stored : Stored text out answer left

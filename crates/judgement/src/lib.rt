@@ -14,7 +14,7 @@ ghost use Rattle.verdict.specs.declared.Answer.the-variants.{Allowed};
 ghost use Rattle.execution.specs.OnFile.{OnFile};
 ghost use Rattle.imm.specs.Judged.{Judged};
 ghost use Rattle.lines.specs.Put.{bytes};
-ghost use Rattle.judgement.specs.Judgement.{OnTranslation, Prints, Answers};
+ghost use Rattle.judgement.specs.Judgement.{OnTranslation, Prints};
 
 // The verdicts on a source file and on its translation.
 pub struct Verdicts {
@@ -93,18 +93,4 @@ pub fn printed(file: &[u8]) -> Lines
         return single(lines::line(true, armv8::file::verdict(file)));
     }
     single(lines::line(true, refused(k)))
-}
-
-// Writes the lines of a file to the start of the output and answers how many bytes they have, or 0 where the output is shorter.
-pub fn judge(file: &[u8], out: &mut [u8]) -> usize
-    ensures { λ r. ⌜ Answers (now (file .entry)) (now (out .entry)) r (now (out .exit)) ⌝ }
-{
-    let text = printed(file);
-    let first = text.first;
-    let second = text.second;
-    if out.len() < first.len + second.len {
-        return 0;
-    }
-    let n = lines::put_line(first, out, 0);
-    lines::put_line(second, out, n)
 }

@@ -1,15 +1,15 @@
 -- Laws of a text that grows: byte by byte, by a word, by a number in decimal, and by a row of such. Assumes nothing.
-use mathlib.Core.Path.{_≡_, refl, sym, ap, subst, _∙_}
+use mathlib.Core.Path.{_≡_, sym, ap, subst, _∙_}
 use mathlib.Core.List.{List, [], _∷_, _++_, map, append-assoc, append-nil}
 use mathlib.Core.Bool.{Bool, true, false, cond}
-use Prim.Native.Nat.{ℕ, suc, _+_, _*_, _/_, _%_, _<_, _≤_}
+use Prim.Native.Nat.{ℕ, _+_, _*_, _/_, _%_, _<_, _≤_}
 use native.Mathlib.Nat.{le-antisymm}
 use native.Mathlib.Numerals.{add-one}
 use native.Mathlib.Omega.{arith}
 use borrow.Author.Tests.{lt-ltb, le-ltb}
 use lib.Dec.{ltb}
-use lib.ListN.{length, getD, take, set, length-append, length-set}
-use lib.Seq.{sets, take-suc, take-suc-set, take-all, length-take-le}
+use lib.ListN.{length, getD, take, set, length-append}
+use lib.Seq.{take-suc, take-suc-set, take-all, length-take-le}
 use Rattle.lines.specs.declared.Text.{Text}
 use Rattle.lines.specs.Lines.{digit, decimal, spaced}
 use Rattle.lines.specs.Put.{bytes, Room, Put}
@@ -130,36 +130,3 @@ module _ (t : Text) (at : List ℕ) where
 
   pub numbers-all : (n k : ℕ) (r : Text) → k ≤ n → n ≤ k → Numbers t at k r → Numbers t at n r
   numbers-all n k r h g p = subst (λ (m : ℕ). Numbers t at m r) (le-antisymm h g) p
-
--- A run of stores and one store more.
-sets-last : (l : List ℕ) (i : ℕ) (vs : List ℕ) (v : ℕ) → set (sets l i vs) (i + length vs) v ≡ sets l i (vs ++ (v ∷ []))
-sets-last l i [] v = ap (λ (k : ℕ). set l k v) (same i)
-  where
-    same : (i : ℕ) → i + 0 ≡ i
-    same i = omega arith
-sets-last l i (a ∷ vs) v = ap (λ (k : ℕ). set (sets (set l i a) (suc i) vs) k v) same ∙ sets-last (set l i a) (suc i) vs v
-  where
-    same : i + suc (length vs) ≡ suc i + length vs
-    same = omega arith
-
--- The first k of w are stored in l from the place i on, which gives o.
-pub record Stored (l : List ℕ) (i : ℕ) (w : List ℕ) (k : ℕ) (o : List ℕ) : Type 0 where
-  pub long : length o ≡ length l
-  pub holds : o ≡ sets l i (take k w)
-
-module _ (l : List ℕ) (i : ℕ) (w : List ℕ) where
-  pub stored-none : Stored l i w 0 l
-  stored-none = record { long = refl; holds = refl }
-
-  pub stored-more : (k : ℕ) (o : List ℕ) → k < length w → Stored l i w k o → Stored l i w (k + 1) (set o (i + k) (getD w k 0))
-  stored-more k o lt p =
-      record {
-        long = length-set o (i + k) (getD w k 0) ∙ p .long;
-        holds = ap (λ (m : List ℕ). set m (i + k) (getD w k 0)) (p .holds)
-            ∙ ap (λ (j : ℕ). set (sets l i (take k w)) (i + j) (getD w k 0)) (sym (length-take-le k w (omega arith)))
-            ∙ sets-last l i (take k w) (getD w k 0)
-            ∙ ap (sets l i) (sym (take-suc w k 0 lt) ∙ ap (λ (n : ℕ). take n w) (sym (add-one k)));
-      }
-
-  pub stored-all : (n k : ℕ) (o : List ℕ) → k ≤ n → n ≤ k → Stored l i w k o → o ≡ sets l i (take n w)
-  stored-all n k o h g p = p .holds ∙ ap (λ (m : ℕ). sets l i (take m w)) (le-antisymm h g)

@@ -1,4 +1,4 @@
-// The lines that the judge prints, as bytes: a line is made in a text, which is then put into a lent slice.
+// The lines that the judge prints, as bytes: a line is made in a text.
 // The line is that of specs/Lines.antt; nothing is assumed of a verdict but that it shows at most 64 events.
 
 use verdict::Answer;
@@ -7,7 +7,6 @@ ghost use mathlib.Core.Path.{_≡_};
 ghost use mathlib.Core.List.{[], _∷_, map};
 ghost use Prim.Native.Nat.{_+_, _*_, _≤_};
 ghost use lib.ListN.{length, take};
-ghost use lib.Seq.{sets};
 ghost use Rattle.lines.specs.Lines.{modelWord, decimal, spaced, lineOf};
 ghost use Rattle.lines.specs.Put.{bytes, Room, Put};
 
@@ -127,20 +126,4 @@ pub fn line(chip: bool, v: Verdict) -> Text
             put(put_events(t, at, n), b'\n')
         }
     }
-}
-
-// The bytes of t stored in out from the place at on; answers the place behind them.
-pub fn put_line(t: Text, out: &mut [u8], at: usize) -> usize
-    requires { ⌜ (t .len ≤ 320) × (at + t .len ≤ length (now out)) ⌝ }
-    ensures end { λ r. ⌜ r ≡ at + t .len ⌝ }
-    ensures stored { λ r. ⌜ now (out .exit) ≡ sets (now (out .entry)) at (bytes t) ⌝ }
-{
-    let text = t.at;
-    let n = t.len;
-    let mut k: usize = 0;
-    while k < n {
-        out[at + k] = text[k];
-        k += 1;
-    }
-    at + n
 }

@@ -1,1 +1,2 @@
 -- Laws that the proofs of `probe` share.
+pub mod CallLaws

@@ -1,2 +1,2 @@
 -- The definitions that the contracts of `probe` cite.
-pub mod Coded
+pub mod Calls

@@ -1,40 +1,112 @@
 // The probe's library: the calls that it offers to firmware, on numbers and slices, with C names and no condition on their arguments.
+// Every answer has one coding, `coded` of specs/Calls.antt.
 
 use recording::causes;
 use translation::Translation;
+use translation::output;
+use verdict::Answer;
+use verdict::Verdict;
 ghost use mathlib.Core.Path.{_≡_};
+ghost use Prim.Native.Nat.{_≤_};
 ghost use lib.ListN.{length};
 ghost use Rattle.recording.specs.Causes.{refusal};
+ghost use Rattle.models.specs.Rules.{IMM, ARMv8};
+ghost use Rattle.imm.specs.Judged as imm;
+ghost use Rattle.armv8.specs.Judged as armv8;
 ghost use Rattle.translation.specs.Answer.{translationOf, outputOf};
-ghost use Rattle.judgement.specs.Judgement.{Answers};
-ghost use Rattle.probe.specs.Coded.{coded};
+ghost use Rattle.probe.specs.Calls.{coded, translated, Stored, Reported, Reports, Printed};
+
+// An answer: the number of the refusal, that of the broken rule, and how many bytes were written.
+fn coded(cause: u8, rule: u8, written: usize) -> u64
+    requires { ⌜ written ≤ 1320 ⌝ }
+    ensures { λ r. ⌜ r ≡ coded cause rule written ⌝ }
+{
+    (cause as u64) + 256 * (rule as u64) + 65536 * (written as u64)
+}
 
 // Loads a file: 0 where it loads, and else the number of the first cause of refusal that applies, 1 to 10.
 #[no_mangle]
 pub extern "C" fn probe_load(file: &[u8]) -> u64
-    ensures { λ r. ⌜ r ≡ refusal (now (file .entry)) ⌝ }
+    ensures { λ r. ⌜ r ≡ coded (refusal (now (file .entry))) 0 0 ⌝ }
 {
-    causes::number(causes::load(file)) as u64
+    coded(causes::number(causes::load(file)), 0, 0)
 }
 
-// Writes the translation of a source file to the start of the output, and answers 256 times its length. Refused with a number, 1 to 12,
-// the output stays as it was.
-#[no_mangle]
-pub extern "C" fn probe_translate(file: &[u8], out: &mut [u8]) -> u64
-    ensures answer { λ r. ⌜ r ≡ coded (translationOf (now (file .entry)) (length (now (out .entry)))) ⌝ }
-    ensures output { λ _. ⌜ now (out .exit) ≡ outputOf (now (file .entry)) (now (out .entry)) ⌝ }
+// Puts bytes at the start of the output, for the broken rule of that number; refused with 12 where the output is shorter.
+fn stored(rule: u8, bytes: &[u8], out: &mut [u8]) -> u64
+    requires { ⌜ length (now bytes) ≤ 64 ⌝ }
+    ensures { λ r. ⌜ Stored rule (now (bytes .entry)) (now (out .entry)) r (now (out .exit)) ⌝ }
 {
-    match translation::translate(file, out) {
-        Translation::Refused(k) => k as u64,
-        Translation::Written(n) => 256 * (n as u64),
+    if out.len() < bytes.len() {
+        return coded(12, 0, 0);
+    }
+    output::put(out, 0, bytes);
+    coded(0, rule, bytes.len())
+}
+
+// Puts the events that a verdict shows at the start of the output; a refusal is answered by its number.
+fn reported(v: Verdict, out: &mut [u8]) -> u64
+    requires { ⌜ v .len ≤ 64 ⌝ }
+    ensures { λ r. ⌜ Reported v (now (out .entry)) r (now (out .exit)) ⌝ }
+{
+    let answer = v.answer;
+    let at = v.at;
+    let n = v.len;
+    match answer {
+        Answer::Refused(k) => coded(k, 0, 0),
+        Answer::Allowed => stored(0, &at[..n], out),
+        Answer::Broken(rule) => stored(rule, &at[..n], out),
     }
 }
 
-// Writes the lines of a file to the start of the output, at most 640 bytes, and answers how many bytes they have. Where the output is
-// shorter than the lines it answers 0 and the output stays as it was.
+// The IMM verdict on a source file; the events that are shown of it, at most 64, fill the output's start. Refused with a number, 1 to 12,
+// the output stays as it was.
+#[no_mangle]
+pub extern "C" fn probe_imm(file: &[u8], out: &mut [u8]) -> u64
+    ensures { λ r. ⌜ Reports 1 IMM imm.Judged (now (file .entry)) (now (out .entry)) r (now (out .exit)) ⌝ }
+{
+    reported(imm::file::verdict(file), out)
+}
+
+// The ARMv8 verdict on a chip file; the events that are shown of it, at most 64, fill the output's start. Refused with a number, 1 to 12,
+// the output stays as it was.
+#[no_mangle]
+pub extern "C" fn probe_armv8(file: &[u8], out: &mut [u8]) -> u64
+    ensures { λ r. ⌜ Reports 2 ARMv8 armv8.Judged (now (file .entry)) (now (out .entry)) r (now (out .exit)) ⌝ }
+{
+    reported(armv8::file::verdict(file), out)
+}
+
+// Writes the translation of a source file, at most 1320 bytes, to the start of the output. Refused with a number, 1 to 12, the output
+// stays as it was.
+#[no_mangle]
+pub extern "C" fn probe_translate(file: &[u8], out: &mut [u8]) -> u64
+    ensures answer { λ r. ⌜ r ≡ translated (translationOf (now (file .entry)) (length (now (out .entry)))) ⌝ }
+    ensures output { λ _. ⌜ now (out .exit) ≡ outputOf (now (file .entry)) (now (out .entry)) ⌝ }
+{
+    match translation::translate(file, out) {
+        Translation::Refused(k) => coded(k, 0, 0),
+        Translation::Written(n) => coded(0, 0, n),
+    }
+}
+
+// Writes the lines that the judge prints of a file, at most 640 bytes, to the start of the output. Refused with 12 where the output is
+// shorter than the lines, and then it stays as it was.
 #[no_mangle]
 pub extern "C" fn probe_judge(file: &[u8], out: &mut [u8]) -> u64
-    ensures { λ r. ⌜ Answers (now (file .entry)) (now (out .entry)) r (now (out .exit)) ⌝ }
+    ensures { λ r. ⌜ Printed (now (file .entry)) (now (out .entry)) r (now (out .exit)) ⌝ }
 {
-    judgement::judge(file, out) as u64
+    let text = judgement::printed(file);
+    let first = text.first;
+    let second = text.second;
+    let at = first.at;
+    let n = first.len;
+    let more = second.at;
+    let m = second.len;
+    if out.len() < n + m {
+        return coded(12, 0, 0);
+    }
+    output::put(out, 0, &at[..n]);
+    output::put(out, n, &more[..m]);
+    coded(0, 0, n + m)
 }

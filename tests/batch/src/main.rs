@@ -1,12 +1,16 @@
 //! The batch driver over the probe's static library.
 //!
-//!     batch load | translate | translate-rooms | judge | judge-rooms < FILES
+//!     batch load | translate | translate-rooms | judge | judge-rooms | verdicts-rooms < FILES
 //!
 //! reads one file a line in hexadecimal (an empty line is the empty file) and writes one answer a line:
 //! `load` writes `loads` or `refused K`, `translate` the translation in hexadecimal or `refused K`,
-//! `judge` what the judge prints, with `;` for a line feed.
+//! `judge` what the judge prints, with `;` for a line feed, and `verdicts` the same, made of what the calls for the verdicts answer.
 //! Every output lies between guard bytes. With `-rooms` it is lent three times: longer than the answer, as long, and one byte shorter.
 
+mod lent;
+mod verdicts;
+
+use lent::{at_each_room, lent, Answer, MOST};
 use std::io::{self, BufRead, BufWriter, Write};
 use std::process::exit;
 
@@ -16,11 +20,6 @@ extern "C" {
     fn probe_judge(file: *const u8, len: usize, out: *mut u8, room: usize) -> u64;
 }
 
-type Call = unsafe extern "C" fn(*const u8, usize, *mut u8, usize) -> u64;
-
-const GUARD: usize = 64;
-const MOST: usize = 1400;
-
 fn load(file: &[u8]) -> String {
     // SAFETY: the pointer and the length are those of a slice, and the call only reads it.
     match unsafe { probe_load(file.as_ptr(), file.len()) } {
@@ -29,52 +28,19 @@ fn load(file: &[u8]) -> String {
     }
 }
 
-/// Lends `room` bytes of a filled buffer to a call; the answer, and the bytes that it wrote where `written` says how many.
-/// All other bytes must stay.
-fn lent(call: Call, file: &[u8], room: usize, written: fn(u64) -> usize) -> (u64, Vec<u8>) {
-    let fill = |at: usize| (at * 37 + 11) as u8;
-    let mut buffer: Vec<u8> = (0..GUARD + MOST + GUARD).map(fill).collect();
-    // SAFETY: the pointers and lengths are those of slices; the second lies within the buffer.
-    let answer = unsafe { call(file.as_ptr(), file.len(), buffer[GUARD..].as_mut_ptr(), room) };
-    let end = GUARD + written(answer);
-    let stays = |at: usize| buffer[at] == fill(at);
-    if !(0..GUARD).all(stays) || !(end..buffer.len()).all(stays) || end > GUARD + room {
-        return (answer, b"wrote outside".to_vec());
-    }
-    (answer, buffer[GUARD..end].to_vec())
-}
-
-/// The answer at full room, which must be the same at exactly the room that it needs; with one byte less `refused` is answered.
-fn at_each_room(call: Call, file: &[u8], written: fn(u64) -> usize, refused: u64) -> (u64, Vec<u8>) {
-    let (answer, bytes) = lent(call, file, MOST, written);
-    if !bytes.is_empty() {
-        if lent(call, file, bytes.len(), written) != (answer, bytes.clone()) {
-            return (answer, b"differs at the room that it needs".to_vec());
-        }
-        if lent(call, file, bytes.len() - 1, written) != (refused, Vec::new()) {
-            return (answer, b"differs with a byte less".to_vec());
-        }
-    }
-    (answer, bytes)
-}
-
-fn translation((answer, bytes): (u64, Vec<u8>)) -> String {
-    match answer % 256 {
-        0 => bytes.iter().map(|b| format!("{b:02x}")).collect(),
-        cause => format!("refused {cause}"),
+fn translation(answer: Answer) -> String {
+    match (answer.refusal, answer.rule) {
+        (0, 0) => answer.bytes.iter().map(|b| format!("{b:02x}")).collect(),
+        (cause, 0) => format!("refused {cause}"),
+        (_, rule) => format!("broken rule {rule} of a translation"),
     }
 }
 
-fn lines((_, bytes): (u64, Vec<u8>)) -> String {
-    String::from_utf8_lossy(&bytes).replace('\n', ";")
-}
-
-fn translated(answer: u64) -> usize {
-    (answer / 256) as usize
-}
-
-fn judged(answer: u64) -> usize {
-    answer as usize
+fn lines(answer: Answer) -> String {
+    match (answer.refusal, answer.rule) {
+        (0, 0) => String::from_utf8_lossy(&answer.bytes).replace('\n', ";"),
+        (cause, rule) => format!("refusal {cause} and broken rule {rule} of lines"),
+    }
 }
 
 fn from_hex(line: &str) -> Option<Vec<u8>> {
@@ -96,12 +62,13 @@ fn main() -> io::Result<()> {
     let word = std::env::args().nth(1).unwrap_or_default();
     let answer: fn(&[u8]) -> String = match word.as_str() {
         "load" => load,
-        "translate" => |file| translation(lent(probe_translate, file, MOST, translated)),
-        "translate-rooms" => |file| translation(at_each_room(probe_translate, file, translated, 12)),
-        "judge" => |file| lines(lent(probe_judge, file, MOST, judged)),
-        "judge-rooms" => |file| lines(at_each_room(probe_judge, file, judged, 0)),
+        "translate" => |file| translation(lent(probe_translate, file, MOST)),
+        "translate-rooms" => |file| translation(at_each_room(probe_translate, file)),
+        "judge" => |file| lines(lent(probe_judge, file, MOST)),
+        "judge-rooms" => |file| lines(at_each_room(probe_judge, file)),
+        "verdicts-rooms" => verdicts::lines,
         _ => {
-            eprintln!("usage: batch load | translate | translate-rooms | judge | judge-rooms < FILES");
+            eprintln!("usage: batch load | translate | translate-rooms | judge | judge-rooms | verdicts-rooms < FILES");
             exit(2);
         }
     };

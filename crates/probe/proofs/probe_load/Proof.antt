@@ -1,7 +1,9 @@
 -- `probe_load` meets its contract. Assumes nothing.
 use mathlib.Core.Path.{ap, _∙_}
+use Prim.Native.Nat.{ℕ}
 use Rattle.recording.specs.Load.{numberOf}
 use Rattle.recording.proofs.CauseLaws.{load-number}
+use Rattle.probe.specs.Calls.{coded}
 use borrow.Author.Needs.{needs}
 use Rattle.probe.proofs.probe_load.Statement.{statement}
 use Rattle.probe.proofs.probe_load.Tie as tie
@@ -12,11 +14,11 @@ load-requires c κs = search needs
 number-requires : tie.Need-number-requires
 number-requires c κs = search needs
 
-cast-result : tie.Need-cast-result
-cast-result c = search needs
+coded-requires : tie.Need-coded-requires
+coded-requires c κs = search needs
 
 returns : tie.Need-returns
-returns c = c .number .ensures ∙ ap numberOf (c .before .load .ensures) ∙ load-number _
+returns c = c .coded .ensures ∙ ap (λ (k : ℕ). coded k 0 0) (c .before .number .ensures ∙ ap numberOf (c .before .before .load .ensures) ∙ load-number _)
 
 pub probe-load-spec : {M : Type 1} → statement M
-probe-load-spec = tie.close (tie.spec load-requires number-requires cast-result returns)
+probe-load-spec = tie.close (tie.spec load-requires number-requires coded-requires returns)

@@ -1,7 +1,7 @@
 -- `probe_translate` meets its contract: the answer as a number. Assumes nothing.
 use mathlib.Core.Path.{ap, sym, _∙_}
 use Rattle.judgement.proofs.ChipLaws.{written-short}
-use Rattle.probe.specs.Coded.{coded}
+use Rattle.probe.specs.Calls.{translated}
 use borrow.Author.Needs.{needs}
 use Rattle.probe.proofs.probe_translate.Statement.{statement}
 use Rattle.probe.proofs.probe_translate.Tie as tie
@@ -12,28 +12,28 @@ translate-requires c κs = search needs
 enum-known-k : tie.Need-enum-known-k
 enum-known-k c = search needs
 
-cast-result : tie.Need-cast-result
-cast-result c = search needs
+coded-requires : tie.Need-coded-requires
+coded-requires c κs = search needs
 
 enum-known-n : tie.Need-enum-known-n
 enum-known-n c = search needs
 
-mul-result : tie.Need-mul-result
-mul-result c = (let t = c .before .before .before .before .before .translate in search (needs, written-short _ _ _ _ (t .ensures .0) (c .before .n .given .1)))
+coded-requires-2 : tie.Need-coded-requires-2
+coded-requires-2 c κs = (let t = c .before .before .before .before .before .translate in search (needs, written-short _ _ _ _ (t .ensures .0) (c .before .n .given .1)))
 
 same-length : tie.Need-same-length
 same-length c = search needs
 
 returns : tie.Need-returns
-unfolding coded
-returns c = (let t = c .before .before .before .before .before .translate in (ap coded (sym (c .before .k .given .1) ∙ t .ensures .0), t .ensures .1))
+unfolding translated
+returns c = (let t = c .before .before .before .before .before .before .translate in (c .coded .ensures ∙ ap translated (sym (c .before .before .k .given .1) ∙ t .ensures .0), t .ensures .1))
 
 same-length-2 : tie.Need-same-length-2
 same-length-2 c = search needs
 
 returns-2 : tie.Need-returns-2
-unfolding coded
-returns-2 c = (let t = c .before .before .before .before .before .translate in (ap coded (sym (c .before .n .given .1) ∙ t .ensures .0), t .ensures .1))
+unfolding translated
+returns-2 c = (let t = c .before .before .before .before .before .before .translate in (c .coded2 .ensures ∙ ap translated (sym (c .before .before .n .given .1) ∙ t .ensures .0), t .ensures .1))
 
 pub probe-translate-spec : {M : Type 1} → statement M
 probe-translate-spec =
@@ -41,9 +41,9 @@ probe-translate-spec =
     (tie.spec
     translate-requires
     enum-known-k
-    cast-result
+    coded-requires
     enum-known-n
-    mul-result
+    coded-requires-2
     same-length
     returns
     same-length-2

@@ -1,0 +1,39 @@
+//! The judge's lines, made of what the calls for the verdicts answer.
+
+use crate::lent::{at_each_room, Answer};
+use crate::probe_translate;
+
+extern "C" {
+    fn probe_imm(file: *const u8, len: usize, out: *mut u8, room: usize) -> u64;
+    fn probe_armv8(file: *const u8, len: usize, out: *mut u8, room: usize) -> u64;
+}
+
+fn line(model: &str, verdict: &Answer) -> String {
+    let word = match verdict.rule {
+        0 => "allowed".to_string(),
+        rule => format!("broken {rule}"),
+    };
+    let events: String = verdict.bytes.iter().map(|e| format!(" {e}")).collect();
+    format!("{model} {word}{events};")
+}
+
+/// The lines of a source file whose IMM verdict is given.
+fn source_lines(file: &[u8], imm: &Answer) -> String {
+    let chip = at_each_room(probe_translate, file).bytes;
+    let armv8 = at_each_room(probe_armv8, &chip);
+    match armv8.refusal {
+        0 => line("source", imm) + &line("chip", &armv8),
+        cause => format!("translation refused {cause}"),
+    }
+}
+
+/// A file that loads is refused with 11 by the verdict of the other kind; one that does not load has one number in both.
+pub fn lines(file: &[u8]) -> String {
+    let (imm, armv8) = (at_each_room(probe_imm, file), at_each_room(probe_armv8, file));
+    match (imm.refusal, armv8.refusal) {
+        (0, 11) => source_lines(file, &imm),
+        (11, 0) => line("chip", &armv8),
+        (cause, same) if cause == same && cause <= 10 => format!("refused {cause};"),
+        (cause, other) => format!("refused {cause} and {other}"),
+    }
+}
