@@ -2,19 +2,19 @@
 use mathlib.Core.Path.{_≡_, refl, sym, ap, ap₂, subst, _∙_, fun-ext}
 use mathlib.Core.List.{List, [], _∷_}
 use mathlib.Core.Bool.{Bool, true, false, not, _&&_, _||_}
-use Prim.Native.Nat.{ℕ, zero, suc, _+_, _<_, _≤_}
+use Prim.Native.Nat.{ℕ, zero, suc, _+_, _-_, _*_, _<_, _≤_}
 use native.Mathlib.Numerals.{add-one}
 use native.Mathlib.Omega.{arith}
 use native.Mathlib.Decide.{ℕ-discrete, decLt}
 use borrow.Author.Count.{below-more}
-use borrow.Author.Tests.{eq-eqb, ne-eqb}
+use borrow.Author.Tests.{eq-eqb, ne-eqb, lt-ltb, le-ltb}
 use lib.Dec.{eqb, ltb}
 use lib.ListN.{length, getD, set, replicate, length-set, List·getD-eq-default}
 use lib.Seq.{getD-set-same, getD-set-other}
-use Rattle.relation.specs.Rel.{Set, Rel, empty, none, single, pair, union, intersection, difference, either, both, minus, inverse, identity, product, from, into, some, image, chain, through, plus, optional, star, diagonal, below, nodes}
+use Rattle.relation.specs.Rel.{Set, Rel, empty, none, single, pair, union, intersection, difference, either, both, minus, inverse, identity, product, from, into, some, image, chain, through, plus, optional, star, diagonal, below, nodes, least, Next}
 use Rattle.relation.specs.Bits.{bit, edge}
 use Rattle.relation.proofs.ByteLaws.{bit-none, bit-out, on-zero}
-use Rattle.relation.proofs.SetLaws.{or-comm, or-false, and-false}
+use Rattle.relation.proofs.SetLaws.{or-comm, or-false, or-true, and-false, and-true, Least, least-is}
 
 -- A row that is not there holds nothing.
 pub bit-nil : bit [] ≡ empty
@@ -106,23 +106,63 @@ image-step : (k : ℕ) (s : Set) (r : Rel) (j : ℕ) → image (below (k + 1)) s
 unfolding image some below
 image-step k s r j = rw (add-one k) (or-comm (s k && r k j) (some (below k) (λ i. s i && r i j)))
 
-pub image-none : (s : Set) (r : Rel) → empty ≡ image (below 0) s r
+image-none : (s : Set) (r : Rel) → empty ≡ image (below 0) s r
 unfolding empty image some below
 image-none s r = refl
 
-pub image-with : (k : ℕ) (s : Set) (r : Rel) (t : Set) → t ≡ image (below k) s r → s k ≡ true
+image-with : (k : ℕ) (s : Set) (r : Rel) (t : Set) → t ≡ image (below k) s r → s k ≡ true
     → union t (r k) ≡ image (below (k + 1)) s r
 unfolding union
 image-with k s r t p e =
     fun-ext
     (λ j. ap₂ _||_ (ap (λ (f : Set). f j) p) (ap (λ (b : Bool). b && r k j) (sym e)) ∙ sym (image-step k s r j))
 
-pub image-keep : (k : ℕ) (s : Set) (r : Rel) (t : Set) → t ≡ image (below k) s r → s k ≡ false
+image-keep : (k : ℕ) (s : Set) (r : Rel) (t : Set) → t ≡ image (below k) s r → s k ≡ false
     → t ≡ image (below (k + 1)) s r
 image-keep k s r t p e =
     fun-ext
     (λ j. ap (λ (f : Set). f j) p ∙ sym (or-false _)
     ∙ ap (λ (b : Bool). image (below k) s r j || b) (ap (λ (b : Bool). b && r k j) (sym e)) ∙ sym (image-step k s r j))
+
+-- Events that are not in s add nothing.
+image-skip : (s : Set) (r : Rel) (t : Set) (i d : ℕ) → t ≡ image (below i) s r → ((m : ℕ) → i ≤ m → m < i + d → s m ≡ false)
+    → t ≡ image (below (i + d)) s r
+image-skip s r t i zero p f = p ∙ ap (λ (k : ℕ). image (below k) s r) {x = i} {y = i + 0} (omega arith)
+image-skip s r t i (suc d) p f =
+    image-keep (i + d) s r t (image-skip s r t i d p (λ m g h. f m g (omega arith))) (f (i + d) (omega arith) (omega arith))
+    ∙ ap (λ (k : ℕ). image (below k) s r) {x = i + d + 1} {y = i + suc d} (omega arith)
+
+image-to : (s : Set) (r : Rel) (t : Set) (i k : ℕ) → t ≡ image (below i) s r → i ≤ k → ((m : ℕ) → i ≤ m → m < k → s m ≡ false)
+    → t ≡ image (below k) s r
+image-to s r t i k p h f =
+    image-skip s r t i (k - i) p (λ m g l. f m g (omega arith)) ∙ ap (λ (n : ℕ). image (below n) s r) {x = i + (k - i)} {y = k} (omega arith)
+
+-- t is what r reaches from the members of s below i, where i is a member or 64.
+pub record Reached (s : Set) (r : Rel) (t : Set) (i : ℕ) : Type 0 where
+  pub high : i ≤ 64
+  pub holds : t ≡ image (below i) s r
+  pub member : i < 64 → s i ≡ true
+
+module _ (s : Set) (r : Rel) (t : Set) (i : ℕ) where
+  pub reached-first : t ≡ empty → i ≡ least 64 s → Reached s r t i
+  reached-first p e =
+      let l : Least 64 s i = subst (Least 64 s) (sym e) (least-is 64 s) in
+      record {
+        high = l .bound;
+        holds = image-to s r t 0 i (p ∙ image-none s r) (omega arith) (λ m g h. l .smaller m h);
+        member = l .member;
+      }
+
+  pub reached-next : Reached s r t i → i < 64 → (u : Set) (n : ℕ) → u ≡ union t (r i) → Next s (i + 1) n → Reached s r u n
+  reached-next w h u n p next =
+      record {
+        high = next .high;
+        holds = image-to s r u (i + 1) n (p ∙ image-with i s r t (w .holds) (w .member h)) (next .low) (next .before);
+        member = next .member;
+      }
+
+  pub reached-all : Reached s r t i → 64 ≤ i → t ≡ image nodes s r
+  reached-all w h = w .holds ∙ ap (λ (k : ℕ). image (below k) s r) (omega (arith, w .high))
 
 bit-replicate : (n : ℕ) (row : List ℕ) → bit row ≡ empty → (i : ℕ) → bit (getD (replicate n row) i []) ≡ empty
 bit-replicate zero row e i = bit-nil
@@ -154,13 +194,16 @@ pub through-out : (k : ℕ) (r : Rel) (m : ℕ) → r m ≡ empty → through k 
 unfolding through empty
 through-out k r m p = fun-ext (λ j. ap (λ (s : Set). s j || (s k && r k j)) p)
 
-pub through-yes : (k : ℕ) (r : Rel) (m : ℕ) → r m k ≡ true → union (r m) (r k) ≡ through k r m
+-- x and y are the rows m and k.
+pub through-yes : (k : ℕ) (r : Rel) (m : ℕ) (x y : Set) → x ≡ r m → y ≡ r k → x k ≡ true → union x y ≡ through k r m
 unfolding union through
-through-yes k r m p = fun-ext (λ j. ap (λ (b : Bool). r m j || (b && r k j)) (sym p))
+through-yes k r m x y p q t =
+    fun-ext (λ j. ap₂ (λ (f g : Set). f j || g j) p q ∙ ap (λ (b : Bool). r m j || (b && r k j)) (sym t ∙ ap (λ (f : Set). f k) p))
 
-pub through-no : (k : ℕ) (r : Rel) (m : ℕ) → r m k ≡ false → r m ≡ through k r m
+pub through-no : (k : ℕ) (r : Rel) (m : ℕ) (x : Set) → x ≡ r m → x k ≡ false → r m ≡ through k r m
 unfolding through
-through-no k r m p = fun-ext (λ j. sym (or-false (r m j)) ∙ ap (λ (b : Bool). r m j || (b && r k j)) (sym p))
+through-no k r m x p t =
+    fun-ext (λ j. sym (or-false (r m j)) ∙ ap (λ (b : Bool). r m j || (b && r k j)) (sym t ∙ ap (λ (f : Set). f k) p))
 
 pub from-yes : (s : Set) (r : Rel) (m : ℕ) → s m ≡ true → r m ≡ from s r m
 unfolding from
@@ -169,6 +212,145 @@ from-yes s r m p = fun-ext (λ j. ap (λ (b : Bool). b && r m j) (sym p))
 pub from-no : (s : Set) (r : Rel) (m : ℕ) → s m ≡ false → none m ≡ from s r m
 unfolding from none empty
 from-no s r m p = fun-ext (λ j. ap (λ (b : Bool). b && r m j) (sym p))
+
+-- A row without events.
+pub none-in : (row : List ℕ) (n : ℕ) → n ≡ least 64 (bit row) → 64 ≤ n → bit row ≡ empty
+unfolding empty
+none-in row n e h =
+    let l : Least 64 (bit row) n = subst (Least 64 (bit row)) (sym e) (least-is 64 (bit row)) in
+    fun-ext (λ j. elim (decLt j 64) [ yes p ↦ l .smaller j (omega arith) | no p ↦ bit-out row j (omega (arith, p)) ])
+
+pub image-kept : (s : Set) (r : Rel) → s ≡ empty → s ≡ image nodes s r
+image-kept s r p = p ∙ sym (image-out nodes s r p)
+
+pub through-none : (k : ℕ) (r : Rel) → r k ≡ empty → r ≡ through k r
+unfolding through empty
+through-none k r p = fun-ext (λ i. fun-ext (λ j. sym (ap (λ (s : Set). r i j || (r i k && s j)) p ∙ ap (λ (b : Bool). r i j || b) (and-false (r i k)) ∙ or-false (r i j))))
+
+-- The inverse, pair by pair: of the pairs (b, a) of r those at a place 64 b + a below p.
+unfoldable pub turnedBelow : Rel → ℕ → Rel
+turnedBelow r p a b = r b a && ltb (64 * b + a) p
+
+module _ (g : List (List ℕ)) (long : length g ≡ 64) where
+  wide : (b a : ℕ) → 64 ≤ a → edge g b a ≡ false
+  unfolding edge
+  wide b a h = bit-out (getD g b []) a h
+
+  tall : (b a : ℕ) → 64 ≤ b → edge g b a ≡ false
+  unfolding empty
+  tall b a h = ap (λ (s : Set). s a) (edge-out g long b h)
+
+  pub turned-none : none ≡ turnedBelow (edge g) 0
+  unfolding none empty turnedBelow
+  turned-none = fun-ext (λ a. fun-ext (λ b. sym (ap (λ (x : Bool). edge g b a && x) (le-ltb (64 * b + a) 0 (omega arith)) ∙ and-false (edge g b a))))
+
+  pub turned-all : (p : ℕ) → 4096 ≤ p → turnedBelow (edge g) p ≡ inverse (edge g)
+  unfolding turnedBelow inverse
+  turned-all p h = fun-ext (λ a. fun-ext (λ b. go a b (decLt a 64) (decLt b 64)))
+    where
+      go : (a b : ℕ) → Dec (a < 64) → Dec (b < 64) → edge g b a && ltb (64 * b + a) p ≡ edge g b a
+      go a b (yes q) (yes q′) = ap (λ (x : Bool). edge g b a && x) (lt-ltb (64 * b + a) p (omega arith)) ∙ and-true (edge g b a)
+      go a b (no q) w = ap (λ (x : Bool). x && ltb (64 * b + a) p) (wide b a (omega (arith, q))) ∙ sym (wide b a (omega (arith, q)))
+      go a b (yes q) (no q′) = ap (λ (x : Bool). x && ltb (64 * b + a) p) (tall b a (omega (arith, q′))) ∙ sym (tall b a (omega (arith, q′)))
+
+  -- No pair stands at a place from p on and below q.
+  pub turned-skip : (p q : ℕ) → p ≤ q → ((b a : ℕ) → a < 64 → p ≤ 64 * b + a → 64 * b + a < q → edge g b a ≡ false)
+      → turnedBelow (edge g) p ≡ turnedBelow (edge g) q
+  unfolding turnedBelow
+  turned-skip p q h f = fun-ext (λ a. fun-ext (λ b. go a b (decLt a 64) (decLt (64 * b + a) p) (decLt (64 * b + a) q)))
+    where
+      go : (a b : ℕ) → Dec (a < 64) → Dec (64 * b + a < p) → Dec (64 * b + a < q)
+          → edge g b a && ltb (64 * b + a) p ≡ edge g b a && ltb (64 * b + a) q
+      go a b (no n) v w = ap₂ _&&_ (wide b a (omega (arith, n))) refl ∙ sym (ap₂ _&&_ (wide b a (omega (arith, n))) refl)
+      go a b (yes n) (yes v) w = ap (λ (x : Bool). edge g b a && x) (lt-ltb _ p v ∙ sym (lt-ltb _ q (omega arith)))
+      go a b (yes n) (no v) (yes w) = ap₂ _&&_ (f b a n (omega (arith, v)) w) refl ∙ sym (ap₂ _&&_ (f b a n (omega (arith, v)) w) refl)
+      go a b (yes n) (no v) (no w) = ap (λ (x : Bool). edge g b a && x) (le-ltb _ p (omega (arith, v)) ∙ sym (le-ltb _ q (omega (arith, w))))
+
+  -- The pair (i, j) stands at the place 64 i + j.
+  pub turned-with : (i j : ℕ) → j < 64 → edge g i j ≡ true → either (turnedBelow (edge g) (64 * i + j)) (pair j i) ≡ turnedBelow (edge g) (64 * i + j + 1)
+  unfolding either union pair turnedBelow
+  turned-with i j h t = fun-ext (λ a. fun-ext (λ b. go a b (ℕ-discrete j a) (ℕ-discrete i b)))
+    where
+      other : (a b : ℕ) → eqb j a && eqb i b ≡ false → (a < 64 → 64 * b + a ≡ 64 * i + j → ⊥) → Dec (a < 64) → Dec (64 * b + a < 64 * i + j)
+          → (edge g b a && ltb (64 * b + a) (64 * i + j)) || (eqb j a && eqb i b) ≡ edge g b a && ltb (64 * b + a) (64 * i + j + 1)
+      other a b e d (no n) v =
+          ap₂ (λ (x y : Bool). (x && ltb (64 * b + a) (64 * i + j)) || y) (wide b a (omega (arith, n))) e
+          ∙ sym (ap (λ (x : Bool). x && ltb (64 * b + a) (64 * i + j + 1)) (wide b a (omega (arith, n))))
+      other a b e d (yes n) (yes v) =
+          ap (λ (x : Bool). (edge g b a && ltb (64 * b + a) (64 * i + j)) || x) e ∙ or-false _
+          ∙ ap (λ (x : Bool). edge g b a && x) (lt-ltb _ (64 * i + j) v ∙ sym (lt-ltb _ (64 * i + j + 1) (omega arith)))
+      other a b e d (yes n) (no v) =
+          ap (λ (x : Bool). (edge g b a && ltb (64 * b + a) (64 * i + j)) || x) e ∙ or-false _
+          ∙ ap (λ (x : Bool). edge g b a && x) (le-ltb _ (64 * i + j) (omega (arith, v)) ∙ sym (le-ltb _ (64 * i + j + 1) (past (d n) v)))
+        where
+          past : (64 * b + a ≡ 64 * i + j → ⊥) → (64 * b + a < 64 * i + j → ⊥) → 64 * i + j + 1 ≤ 64 * b + a
+          past u w = omega (arith, u, w)
+
+      go : (a b : ℕ) → Dec (j ≡ a) → Dec (i ≡ b)
+          → (edge g b a && ltb (64 * b + a) (64 * i + j)) || (eqb j a && eqb i b) ≡ edge g b a && ltb (64 * b + a) (64 * i + j + 1)
+      go a b (yes p) (yes q) =
+          ap₂ (λ (x y : Bool). (edge g b a && ltb (64 * b + a) (64 * i + j)) || (x && y)) (eq-eqb j a p) (eq-eqb i b q)
+          ∙ or-true (edge g b a && ltb (64 * b + a) (64 * i + j))
+          ∙ sym (ap₂ _&&_ (ap₂ (edge g) (sym q) (sym p) ∙ t) (lt-ltb (64 * b + a) (64 * i + j + 1) (omega (arith, p, q))))
+      go a b (yes p) (no q) =
+          other a b (ap₂ _&&_ (eq-eqb j a p) (ne-eqb i b q)) (λ n e. q (omega (arith, p, e))) (decLt a 64) (decLt (64 * b + a) (64 * i + j))
+      go a b (no p) q =
+          other a b (ap (λ (x : Bool). x && eqb i b) (ne-eqb j a p)) (λ n e. p (omega (arith, n, h, e))) (decLt a 64) (decLt (64 * b + a) (64 * i + j))
+
+-- In the turn of row i, whose row is x, the pairs before (i, j) are turned, where j is in x or is 64.
+pub record Turning (g : List (List ℕ)) (i : ℕ) (x : List ℕ) (h : List (List ℕ)) (j : ℕ) : Type 0 where
+  pub high : j ≤ 64
+  pub holds : edge h ≡ turnedBelow (edge g) (64 * i + j)
+  pub member : j < 64 → edge g i j ≡ true
+  pub row : bit x ≡ edge g i
+  pub long : length h ≡ 64
+  pub given : length g ≡ 64
+
+module _ (g : List (List ℕ)) (i : ℕ) (x : List ℕ) (h : List (List ℕ)) (j : ℕ) where
+  pub turning-first : length g ≡ 64 → length h ≡ 64 → edge h ≡ turnedBelow (edge g) (64 * i) → bit x ≡ edge g i → j ≡ least 64 (bit x) → Turning g i x h j
+  turning-first lg lh p row e =
+      let l : Least 64 (bit x) j = subst (Least 64 (bit x)) (sym e) (least-is 64 (bit x)) in
+      let in-row : (m : ℕ) → m < j → edge g i m ≡ false = λ m k. ap (λ (s : Set). s m) (sym row) ∙ l .smaller m k in
+      record {
+        high = l .bound;
+        holds = p ∙ turned-skip g lg (64 * i) (64 * i + j) (omega arith) (λ b a k u v. ap (λ (n : ℕ). edge g n a) (same b a k u v (l .bound)) ∙ in-row a (near b a k u v (l .bound)));
+        member = λ k. ap (λ (s : Set). s j) (sym row) ∙ l .member k;
+        row = row;
+        long = lh;
+        given = lg;
+      }
+    where
+      same : (b a : ℕ) → a < 64 → 64 * i ≤ 64 * b + a → 64 * b + a < 64 * i + j → j ≤ 64 → b ≡ i
+      same b a k u v w = omega arith
+
+      near : (b a : ℕ) → a < 64 → 64 * i ≤ 64 * b + a → 64 * b + a < 64 * i + j → j ≤ 64 → a < j
+      near b a k u v w = omega arith
+
+  module _ (w : Turning g i x h j) where
+    pub turning-next : j < 64 → i < 64 → (v : List ℕ) (n : ℕ) → bit v ≡ union (bit (getD h j [])) (single i) → Next (bit x) (j + 1) n → Turning g i x (set h j v) n
+    turning-next k l v n p next =
+        record {
+          high = next .high;
+          holds = edge-with h j i v (w .long) k p ∙ ap (λ (r : Rel). either r (pair j i)) (w .holds) ∙ turned-with g (w .given) i j k (w .member k)
+              ∙ turned-skip g (w .given) (64 * i + j + 1) (64 * i + n) (omega (arith, next .low))
+              (λ b a t u z. ap (λ (m : ℕ). edge g m a) (same b a n t u z (next .high)) ∙ ap (λ (s : Set). s a) (sym (w .row)) ∙ next .before a (above b a n t u z (next .high)) (near b a n t u z (next .high)));
+          member = λ z. ap (λ (s : Set). s n) (sym (w .row)) ∙ next .member z;
+          row = w .row;
+          long = length-set h j v ∙ w .long;
+          given = w .given;
+        }
+      where
+        same : (b a n : ℕ) → a < 64 → 64 * i + j + 1 ≤ 64 * b + a → 64 * b + a < 64 * i + n → n ≤ 64 → b ≡ i
+        same b a n t u z m = omega arith
+
+        above : (b a n : ℕ) → a < 64 → 64 * i + j + 1 ≤ 64 * b + a → 64 * b + a < 64 * i + n → n ≤ 64 → j + 1 ≤ a
+        above b a n t u z m = omega arith
+
+        near : (b a n : ℕ) → a < 64 → 64 * i + j + 1 ≤ 64 * b + a → 64 * b + a < 64 * i + n → n ≤ 64 → a < n
+        near b a n t u z m = omega arith
+
+    pub turning-all : 64 ≤ j → edge h ≡ turnedBelow (edge g) (64 * (i + 1))
+    turning-all k = w .holds ∙ ap (turnedBelow (edge g)) {x = 64 * i + j} {y = 64 * (i + 1)} (omega (arith, w .high))
 
 -- The identity, row by row.
 pub identity-out : (s : Set) (m : ℕ) → s m ≡ false → identity s m ≡ empty

@@ -8,3 +8,4 @@ pub mod Walks
 pub mod RingLaws
 pub mod OrderLaws
 pub mod RingMeaning
+pub mod WordLaws

@@ -26,6 +26,14 @@ pub and-false : (x : Bool) → x && false ≡ false
 and-false true = refl
 and-false false = refl
 
+pub and-true : (x : Bool) → x && true ≡ x
+and-true true = refl
+and-true false = refl
+
+pub or-true : (x : Bool) → x || true ≡ true
+or-true true = refl
+or-true false = refl
+
 -- The least member.
 pub least-at : (n : ℕ) (s : Set) (k : ℕ) → k < n → s k ≡ true → ((m : ℕ) → m < k → s m ≡ false) → least n s ≡ k
 unfolding least

@@ -3,7 +3,8 @@
 -- `proofs/Meaning.antt` has the theorems that say what each means: "there is an event between", "one or more steps". Assumes nothing.
 use mathlib.Core.List.{List, [], _∷_}
 use mathlib.Core.Bool.{Bool, true, false, not, _&&_, _||_}
-use Prim.Native.Nat.{ℕ, zero, suc}
+use mathlib.Core.Path.{_≡_}
+use Prim.Native.Nat.{ℕ, zero, suc, _≤_, _<_}
 use lib.Dec.{eqb}
 
 -- A set of events.
@@ -115,6 +116,13 @@ nodes = below 64
 unfoldable pub least : ℕ → Set → ℕ
 least zero s = zero
 least (suc n) s = elim (s zero) [ true ↦ zero | false ↦ suc (least n (λ j. s (suc j))) ]
+
+-- n is the smallest number from i on that is in s, or 64 where none below 64 is.
+pub record Next (s : Set) (i n : ℕ) : Type 0 where
+  pub low : i ≤ n
+  pub high : n ≤ 64
+  pub before : (m : ℕ) → i ≤ m → m < n → s m ≡ false
+  pub member : n < 64 → s n ≡ true
 
 -- How many numbers below n are in s.
 unfoldable pub count : ℕ → Set → ℕ

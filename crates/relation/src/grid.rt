@@ -92,14 +92,12 @@ pub fn image(s: [u8; 8], g: [[u8; 8]; 64]) -> [u8; 8]
     ensures { λ r. ⌜ bit r ≡ image nodes (bit s) (edge g) ⌝ }
 {
     let mut r = row::none();
-    let mut i: usize = 0;
+    let mut i = row::first(s);
     while i < 64 {
-        if row::has(s, i) {
-            let x = g[i];
-            let z = row::or(r, x);
-            r = z;
-        }
-        i += 1;
+        let x = g[i];
+        let z = row::or(r, x);
+        r = z;
+        i = row::next(s, i + 1);
     }
     r
 }
@@ -112,7 +110,9 @@ pub fn then(a: [[u8; 8]; 64], b: [[u8; 8]; 64]) -> [[u8; 8]; 64]
     let mut i: usize = 0;
     while i < 64 {
         let x = a[i];
-        h[i] = image(x, b);
+        if row::first(x) < 64 {
+            h[i] = image(x, b);
+        }
         i += 1;
     }
     h
@@ -187,7 +187,8 @@ pub fn column(g: [[u8; 8]; 64], j: usize) -> [u8; 8]
     let mut r = row::none();
     let mut i: usize = 0;
     while i < 64 {
-        if has(g, i, j) {
+        let x = g[i];
+        if row::has(x, j) {
             let z = row::with(r, i);
             r = z;
         }
@@ -200,10 +201,17 @@ pub fn column(g: [[u8; 8]; 64], j: usize) -> [u8; 8]
 pub fn inverse(g: [[u8; 8]; 64]) -> [[u8; 8]; 64]
     ensures { λ r. ⌜ edge r ≡ inverse (edge g) ⌝ }
 {
-    let mut h = g;
+    let mut h = empty();
     let mut i: usize = 0;
+    let mut j: usize = 0;
     while i < 64 {
-        h[i] = column(g, i);
+        let x = g[i];
+        j = row::first(x);
+        while j < 64 {
+            let y = h[j];
+            h[j] = row::with(y, i);
+            j = row::next(x, j + 1);
+        }
         i += 1;
     }
     h
@@ -216,7 +224,8 @@ pub fn diagonal(g: [[u8; 8]; 64]) -> [u8; 8]
     let mut r = row::none();
     let mut i: usize = 0;
     while i < 64 {
-        if has(g, i, i) {
+        let x = g[i];
+        if row::has(x, i) {
             let z = row::with(r, i);
             r = z;
         }
@@ -232,33 +241,25 @@ pub fn optional(g: [[u8; 8]; 64], s: [u8; 8]) -> [[u8; 8]; 64]
     or(g, identity(s))
 }
 
-// One round of the closure: g, or two steps of g that meet in k.
-pub fn through(g: [[u8; 8]; 64], k: usize) -> [[u8; 8]; 64]
-    requires { ⌜ k < 64 ⌝ }
-    ensures { λ r. ⌜ edge r ≡ through k (edge g) ⌝ }
-{
-    let y = g[k];
-    let mut h = g;
-    let mut i: usize = 0;
-    while i < 64 {
-        let x = g[i];
-        if row::has(x, k) {
-            h[i] = row::or(x, y);
-        }
-        i += 1;
-    }
-    h
-}
-
-// One or more steps of g.
+// One or more steps of g: a round for each event k joins two steps that meet in k.
 pub fn closure(g: [[u8; 8]; 64]) -> [[u8; 8]; 64]
     ensures { λ r. ⌜ edge r ≡ plus nodes (edge g) ⌝ }
 {
     let mut h = g;
     let mut k: usize = 0;
+    let mut i: usize = 0;
     while k < 64 {
-        let z = through(h, k);
-        h = z;
+        let y = h[k];
+        if row::first(y) < 64 {
+            i = 0;
+            while i < 64 {
+                let x = h[i];
+                if row::has(x, k) {
+                    h[i] = row::or(x, y);
+                }
+                i += 1;
+            }
+        }
         k += 1;
     }
     h

@@ -1,9 +1,9 @@
 // A set of events as a row of eight bytes, one bit per event: event j is bit j % 8 of byte j / 8.
 
 ghost use mathlib.Core.Path.{_≡_};
-ghost use Prim.Native.Nat.{_<_};
-ghost use Rattle.relation.specs.Rel.{empty, single, union, intersection, difference, least, count};
-ghost use Rattle.relation.specs.Bits.{bit};
+ghost use Prim.Native.Nat.{_<_, _≤_};
+ghost use Rattle.relation.specs.Rel.{empty, single, union, intersection, difference, least, count, Next};
+ghost use Rattle.relation.specs.Bits.{on, bit};
 ghost use Rattle.relation.specs.Ring.{under};
 
 // The empty set.
@@ -87,16 +87,38 @@ pub fn minus(a: [u8; 8], b: [u8; 8]) -> [u8; 8]
     r
 }
 
+// The row as one number, whose bit j is event j.
+fn word(row: [u8; 8]) -> u64
+    ensures { λ r. ⌜ bit row ≡ on r ⌝ }
+{
+    (row[0] as u64)
+        + 0x100 * (row[1] as u64)
+        + 0x10000 * (row[2] as u64)
+        + 0x1000000 * (row[3] as u64)
+        + 0x100000000 * (row[4] as u64)
+        + 0x10000000000 * (row[5] as u64)
+        + 0x1000000000000 * (row[6] as u64)
+        + 0x100000000000000 * (row[7] as u64)
+}
+
 // The smallest member, or 64 where there is none.
 pub fn first(row: [u8; 8]) -> usize
     ensures { λ r. ⌜ r ≡ least 64 (bit row) ⌝ }
 {
-    let mut j: usize = 0;
-    while j < 64 {
-        if has(row, j) {
-            return j;
-        }
-        j += 1;
+    u64::trailing_zeros(word(row)) as usize
+}
+
+// The smallest member that is i or more, or 64 where there is none.
+pub fn next(row: [u8; 8], i: usize) -> usize
+    requires { ⌜ i ≤ 64 ⌝ }
+    ensures { λ r. ⌜ Next (bit row) i r ⌝ }
+{
+    if i == 64 {
+        return 64;
+    }
+    let n = i + (u64::trailing_zeros(word(row) >> i) as usize);
+    if n < 64 {
+        return n;
     }
     64
 }

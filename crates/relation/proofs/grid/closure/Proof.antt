@@ -1,39 +1,121 @@
--- `grid::closure` meets its contract: one round for each event. Assumes nothing.
-use mathlib.Core.Path.{_≡_, refl, ap, _∙_}
+-- `grid::closure` meets its contract: one round for each event, row by row. Assumes nothing.
+use mathlib.Core.Path.{_≡_, refl, sym, ap, _∙_}
+use mathlib.Core.Logic.{inl, inr}
 use Prim.Native.Nat.{ℕ, _-_, _≤_}
 use native.Mathlib.Omega.{arith}
-use Rattle.relation.specs.Rel.{plus, below}
-use Rattle.relation.specs.Bits.{edge}
-use Rattle.relation.proofs.GridLaws.{plus-none, plus-step}
+use lib.ListN.{length}
+use Rattle.relation.specs.Rel.{plus, through, below}
+use Rattle.relation.specs.Bits.{bit, edge}
+use Rattle.relation.proofs.GridLaws.{Rows, rows-none, rows-set, rows-keep, rows-all, edge-out, through-out, through-yes, through-no, through-none, none-in, plus-none, plus-step}
 use borrow.Author.Needs.{needs}
 use Rattle.relation.proofs.grid.closure.Statement.{statement}
 use Rattle.relation.proofs.grid.closure.Tie as tie
 
+abbrev Inv-loop2 : tie.InvT-loop2
+Inv-loop2 h₀ k i₀ y h i = (i ≤ 64) × Rows (through k (edge h₀)) (edge h₀) h i × (length h₀ ≡ 64) × (bit y ≡ edge h₀ k)
+
+abbrev μ-loop2 : tie.MeasureT-loop2
+μ-loop2 h₀ k i₀ y h i = 64 - i
+
 abbrev Inv-loop : tie.InvT-loop
-Inv-loop h₀ k₀ h k = (k ≤ 64) × (edge h ≡ plus (below k) (edge h₀))
+Inv-loop h₀ k₀ i₀ h k i = (k ≤ 64) × (edge h ≡ plus (below k) (edge h₀)) × (length h ≡ 64)
 
 abbrev μ-loop : tie.MeasureT-loop
-μ-loop h₀ k₀ h k = 64 - k
+μ-loop h₀ k₀ i₀ h k i = 64 - k
 
-loop-holds : tie.Need-loop-holds Inv-loop μ-loop
-loop-holds c = (search needs, plus-none _)
+loop-holds : tie.Need-loop-holds Inv-loop2 μ-loop2 Inv-loop μ-loop
+loop-holds c = (search needs, plus-none _, search needs)
 
-through-requires : tie.Need-through-requires Inv-loop μ-loop
-through-requires c κs = search needs
+mul-y : tie.Need-mul-y Inv-loop2 μ-loop2 Inv-loop μ-loop
+mul-y c = search needs
 
-add-k : tie.Need-add-k Inv-loop μ-loop
+array-copy-out-y : tie.Need-array-copy-out-y Inv-loop2 μ-loop2 Inv-loop μ-loop
+array-copy-out-y c = search needs
+
+first-requires : tie.Need-first-requires Inv-loop2 μ-loop2 Inv-loop μ-loop
+first-requires c κs = search needs
+
+loop2-holds : tie.Need-loop2-holds Inv-loop2 μ-loop2 Inv-loop μ-loop
+unfolding edge
+loop2-holds c = (search needs, rows-none _ _ (c .before .before .before .before .loop .inv .2), c .before .before .before .before .loop .inv .2, refl)
+
+mul-x : tie.Need-mul-x Inv-loop2 μ-loop2 Inv-loop μ-loop
+mul-x c = search needs
+
+array-copy-out-x : tie.Need-array-copy-out-x Inv-loop2 μ-loop2 Inv-loop μ-loop
+array-copy-out-x c = search needs
+
+has-requires : tie.Need-has-requires Inv-loop2 μ-loop2 Inv-loop μ-loop
+has-requires c κs = search needs
+
+or-requires : tie.Need-or-requires Inv-loop2 μ-loop2 Inv-loop μ-loop
+or-requires c κs = search needs
+
+mul-h : tie.Need-mul-h Inv-loop2 μ-loop2 Inv-loop μ-loop
+mul-h c = search needs
+
+array-set-from-h : tie.Need-array-set-from-h Inv-loop2 μ-loop2 Inv-loop μ-loop
+array-set-from-h c = search needs
+
+add-i : tie.Need-add-i Inv-loop2 μ-loop2 Inv-loop μ-loop
+add-i c = search needs
+
+loop2-less : tie.Need-loop2-less Inv-loop2 μ-loop2 Inv-loop μ-loop
+loop2-less c = search needs
+
+loop2-again : tie.Need-loop2-again Inv-loop2 μ-loop2 Inv-loop μ-loop
+unfolding edge
+loop2-again c = 
+    let turn = c .before .before .before in
+    let inv = turn .before .loop2 .inv in
+    let test = c .before .has .ensures in
+    elim (c .if2 .came) [
+      | inl w ↦ rw (w .2) (search needs, rows-set _ _ _ _ _ (inv .1) (turn .loop2-test .taken) (w .1 .ensures ∙ through-yes _ _ _ _ _ (inv .1 .rest _ (omega arith)) (inv .3) (sym test ∙ w .0 .taken)), inv .2, inv .3)
+      | inr w ↦ rw (w .1) (search needs, rows-keep _ _ _ _ (inv .1) (through-no _ _ _ _ (inv .1 .rest _ (omega arith)) (sym test ∙ w .0 .left)), inv .2, inv .3)
+    ]
+
+add-k : tie.Need-add-k Inv-loop2 μ-loop2 Inv-loop μ-loop
 add-k c = search needs
 
-loop-less : tie.Need-loop-less Inv-loop μ-loop
+loop-less : tie.Need-loop-less Inv-loop2 μ-loop2 Inv-loop μ-loop
 loop-less c = search needs
 
-loop-again : tie.Need-loop-again Inv-loop μ-loop
-loop-again c = (search needs, c .through .ensures ∙ plus-step _ _ _ (c .before .before .loop .inv .1))
+loop-again : tie.Need-loop-again Inv-loop2 μ-loop2 Inv-loop μ-loop
+unfolding edge
+loop-again c =
+    let turn = c .before .before .before in
+    let inv = turn .before .loop .inv in
+    elim (c .if1 .came) [
+      | inl w ↦ rw (w .3) (search needs, rows-all _ _ _ _ (w .2 .left) (w .1 .inv .1) (λ m h. through-out _ _ m (edge-out (turn .before .loop .h) (w .1 .inv .2) m h)) ∙ plus-step _ _ _ (inv .1), w .1 .inv .1 .long)
+      | inr w ↦ rw (w .1) (search needs, through-none _ _ (none-in _ _ (c .before .first .ensures) (w .0 .left)) ∙ plus-step _ _ _ (inv .1), inv .2)
+    ]
 
-returns : tie.Need-returns Inv-loop μ-loop
+returns : tie.Need-returns Inv-loop2 μ-loop2 Inv-loop μ-loop
 returns c = c .before .loop .inv .1 ∙ ap (λ (k : ℕ). plus (below k) (edge (c .before .before .args .g))) (omega arith)
 
 pub closure-spec : {M : Type 1} → statement M
 closure-spec =
     tie.close
-    (tie.spec Inv-loop μ-loop loop-holds through-requires add-k loop-less loop-again returns)
+    (tie.spec
+    Inv-loop2
+    μ-loop2
+    Inv-loop
+    μ-loop
+    loop-holds
+    mul-y
+    array-copy-out-y
+    first-requires
+    loop2-holds
+    mul-x
+    array-copy-out-x
+    has-requires
+    or-requires
+    mul-h
+    array-set-from-h
+    add-i
+    loop2-less
+    loop2-again
+    add-k
+    loop-less
+    loop-again
+    returns)

@@ -12,16 +12,22 @@ use Rattle.relation.proofs.grid.column.Statement.{statement}
 use Rattle.relation.proofs.grid.column.Tie as tie
 
 abbrev Inv-loop : tie.InvT-loop
-Inv-loop g j r₀ i₀ r i = (i ≤ 64) × (bit r ≡ upto i (inverse (edge g) j)) × (length g ≡ 64)
+Inv-loop j g r₀ i₀ r i = (i ≤ 64) × (bit r ≡ upto i (inverse (edge g) j)) × (length g ≡ 64)
 
 abbrev μ-loop : tie.MeasureT-loop
-μ-loop g j r₀ i₀ r i = 64 - i
+μ-loop j g r₀ i₀ r i = 64 - i
 
 none-requires : tie.Need-none-requires Inv-loop μ-loop
 none-requires c κs = search needs
 
 loop-holds : tie.Need-loop-holds Inv-loop μ-loop
 loop-holds c = (search needs, c .none .ensures ∙ upto-none _, search needs)
+
+mul-x : tie.Need-mul-x Inv-loop μ-loop
+mul-x c = search needs
+
+array-copy-out-x : tie.Need-array-copy-out-x Inv-loop μ-loop
+array-copy-out-x c = search needs
 
 has-requires : tie.Need-has-requires Inv-loop μ-loop
 has-requires c κs = search needs
@@ -36,9 +42,9 @@ loop-less : tie.Need-loop-less Inv-loop μ-loop
 loop-less c = search needs
 
 loop-again : tie.Need-loop-again Inv-loop μ-loop
-unfolding inverse
-loop-again c =
-    let turn = c .before .before in
+unfolding inverse edge
+loop-again c = 
+    let turn = c .before .before .before in
     let inv = turn .before .loop .inv in
     let test = c .before .has .ensures in
     elim (c .if1 .came) [
@@ -48,7 +54,7 @@ loop-again c =
 
 returns : tie.Need-returns Inv-loop μ-loop
 unfolding inverse empty
-returns c =
+returns c = 
     let inv = c .before .loop .inv in
     upto-done _ 64 _ _ (c .loop-test .left) (inv .1) (λ m h. ap (λ (s : Set). s (c .before .before .before .args .j)) (edge-out _ (inv .2) m h))
 
@@ -60,6 +66,8 @@ column-spec =
     μ-loop
     none-requires
     loop-holds
+    mul-x
+    array-copy-out-x
     has-requires
     with-requires
     add-i

@@ -1,55 +1,107 @@
--- `grid::inverse` meets its contract, row by row. Assumes nothing.
-use mathlib.Core.Path.{_≡_}
-use Prim.Native.Nat.{ℕ, _-_, _≤_}
-use Rattle.relation.specs.Rel.{inverse}
-use Rattle.relation.specs.Bits.{edge}
-use Rattle.relation.proofs.GridLaws.{Rows, rows-none, rows-set, rows-all, inverse-out}
+-- `grid::inverse` meets its contract, pair by pair. Assumes nothing.
+use mathlib.Core.Path.{_≡_, refl, sym, ap, _∙_}
+use Prim.Native.Nat.{ℕ, _-_, _*_, _≤_}
+use native.Mathlib.Omega.{arith}
+use lib.ListN.{length}
+use Rattle.relation.specs.Bits.{bit, edge}
+use Rattle.relation.proofs.GridLaws.{turnedBelow, turned-none, turned-all, Turning, turning-first, turning-next, turning-all}
 use borrow.Author.Needs.{needs}
 use Rattle.relation.proofs.grid.inverse.Statement.{statement}
 use Rattle.relation.proofs.grid.inverse.Tie as tie
 
+abbrev Inv-loop2 : tie.InvT-loop2
+Inv-loop2 g h₀ i j₀ x h j = Turning g i x h j
+
+abbrev μ-loop2 : tie.MeasureT-loop2
+μ-loop2 g h₀ i j₀ x h j = 64 - j
+
 abbrev Inv-loop : tie.InvT-loop
-Inv-loop g h₀ i₀ h i = (i ≤ 64) × Rows (inverse (edge g)) (edge g) h i
+Inv-loop g h₀ i₀ j₀ h i j = (i ≤ 64) × (edge h ≡ turnedBelow (edge g) (64 * i)) × (length h ≡ 64) × (length g ≡ 64)
 
 abbrev μ-loop : tie.MeasureT-loop
-μ-loop g h₀ i₀ h i = 64 - i
+μ-loop g h₀ i₀ j₀ h i j = 64 - i
 
-loop-holds : tie.Need-loop-holds Inv-loop μ-loop
-loop-holds c = (search needs, rows-none _ _ (search needs))
+empty-requires : tie.Need-empty-requires Inv-loop2 μ-loop2 Inv-loop μ-loop
+empty-requires c κs = search needs
 
-column-requires : tie.Need-column-requires Inv-loop μ-loop
-column-requires c κs = search needs
+loop-holds : tie.Need-loop-holds Inv-loop2 μ-loop2 Inv-loop μ-loop
+loop-holds c = (search needs, c .empty .ensures ∙ turned-none _ (search needs), search needs, search needs)
 
-mul-h : tie.Need-mul-h Inv-loop μ-loop
+mul-x : tie.Need-mul-x Inv-loop2 μ-loop2 Inv-loop μ-loop
+mul-x c = search needs
+
+array-copy-out-x : tie.Need-array-copy-out-x Inv-loop2 μ-loop2 Inv-loop μ-loop
+array-copy-out-x c = search needs
+
+first-requires : tie.Need-first-requires Inv-loop2 μ-loop2 Inv-loop μ-loop
+first-requires c κs = search needs
+
+loop2-holds : tie.Need-loop2-holds Inv-loop2 μ-loop2 Inv-loop μ-loop
+unfolding edge
+loop2-holds c = (let inv = c .before .before .before .loop .inv in turning-first _ _ _ _ _ (inv .3) (inv .2) (inv .1) refl (c .first .ensures))
+
+mul-y : tie.Need-mul-y Inv-loop2 μ-loop2 Inv-loop μ-loop
+mul-y c = search needs
+
+array-copy-out-y : tie.Need-array-copy-out-y Inv-loop2 μ-loop2 Inv-loop μ-loop
+array-copy-out-y c = search needs
+
+with-requires : tie.Need-with-requires Inv-loop2 μ-loop2 Inv-loop μ-loop
+with-requires c κs = search needs
+
+mul-h : tie.Need-mul-h Inv-loop2 μ-loop2 Inv-loop μ-loop
 mul-h c = search needs
 
-array-set-from-h : tie.Need-array-set-from-h Inv-loop μ-loop
+array-set-from-h : tie.Need-array-set-from-h Inv-loop2 μ-loop2 Inv-loop μ-loop
 array-set-from-h c = search needs
 
-add-i : tie.Need-add-i Inv-loop μ-loop
+add-next : tie.Need-add-next Inv-loop2 μ-loop2 Inv-loop μ-loop
+add-next c = search needs
+
+next-requires : tie.Need-next-requires Inv-loop2 μ-loop2 Inv-loop μ-loop
+next-requires c κs = search needs
+
+loop2-less : tie.Need-loop2-less Inv-loop2 μ-loop2 Inv-loop μ-loop
+loop2-less c = (let turn = c .before .before .before in omega (arith, c .next .ensures .low, turn .loop2-test .taken))
+
+loop2-again : tie.Need-loop2-again Inv-loop2 μ-loop2 Inv-loop μ-loop
+loop2-again c = (let turn = c .before .before .before in turning-next _ _ _ _ _ (turn .before .loop2 .inv) (turn .loop2-test .taken) (c .before .before .before .before .before .before .before .loop-test .taken) _ _ (c .before .with .ensures) (c .next .ensures))
+
+add-i : tie.Need-add-i Inv-loop2 μ-loop2 Inv-loop μ-loop
 add-i c = search needs
 
-loop-less : tie.Need-loop-less Inv-loop μ-loop
+loop-less : tie.Need-loop-less Inv-loop2 μ-loop2 Inv-loop μ-loop
 loop-less c = search needs
 
-loop-again : tie.Need-loop-again Inv-loop μ-loop
-loop-again c =
-    let turn = c .before in
-    (search needs, rows-set _ _ _ _ _ (turn .before .loop .inv .1) (turn .loop-test .taken) (c .column .ensures))
+loop-again : tie.Need-loop-again Inv-loop2 μ-loop2 Inv-loop μ-loop
+loop-again c = (let inv = c .before .loop2 .inv in (search needs, turning-all _ _ _ _ _ inv (c .loop2-test .left), inv .long, inv .given))
 
-returns : tie.Need-returns Inv-loop μ-loop
-returns c = rows-all _ _ _ _ (c .loop-test .left) (c .before .loop .inv .1) (inverse-out _)
+returns : tie.Need-returns Inv-loop2 μ-loop2 Inv-loop μ-loop
+returns c = (let inv = c .before .loop .inv in inv .1 ∙ turned-all _ (inv .3) _ (omega (arith, c .loop-test .left)))
 
 pub inverse-spec : {M : Type 1} → statement M
 inverse-spec =
     tie.close
     (tie.spec
+    Inv-loop2
+    μ-loop2
     Inv-loop
     μ-loop
+    empty-requires
     loop-holds
-    column-requires
+    mul-x
+    array-copy-out-x
+    first-requires
+    loop2-holds
+    mul-y
+    array-copy-out-y
+    with-requires
     mul-h
     array-set-from-h
+    add-next
+    next-requires
+    loop2-less
+    loop2-again
     add-i
     loop-less
     loop-again

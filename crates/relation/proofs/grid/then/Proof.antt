@@ -1,10 +1,11 @@
 -- `grid::then` meets its contract, row by row. Assumes nothing.
 use mathlib.Core.Path.{_≡_}
+use mathlib.Core.Logic.{inl, inr}
 use Prim.Native.Nat.{ℕ, _-_, _≤_}
 use lib.ListN.{length}
 use Rattle.relation.specs.Rel.{chain, nodes}
 use Rattle.relation.specs.Bits.{edge}
-use Rattle.relation.proofs.GridLaws.{Rows, rows-none, rows-set, rows-all, edge-out, image-out}
+use Rattle.relation.proofs.GridLaws.{Rows, rows-none, rows-set, rows-keep, rows-all, edge-out, image-out, none-in, image-kept}
 use borrow.Author.Needs.{needs}
 use Rattle.relation.proofs.grid.then.Statement.{statement}
 use Rattle.relation.proofs.grid.then.Tie as tie
@@ -24,6 +25,9 @@ mul-x c = search needs
 array-copy-out-x : tie.Need-array-copy-out-x Inv-loop μ-loop
 array-copy-out-x c = search needs
 
+first-requires : tie.Need-first-requires Inv-loop μ-loop
+first-requires c κs = search needs
+
 image-requires : tie.Need-image-requires Inv-loop μ-loop
 image-requires c κs = search needs
 
@@ -41,10 +45,13 @@ loop-less c = search needs
 
 loop-again : tie.Need-loop-again Inv-loop μ-loop
 unfolding edge chain
-loop-again c =
-    let turn = c .before .before in
+loop-again c = 
+    let turn = c .before .before .before in
     let inv = turn .before .loop .inv in
-    (search needs, rows-set _ _ _ _ _ (inv .1) (turn .loop-test .taken) (c .image .ensures), inv .2)
+    elim (c .if1 .came) [
+      | inl w ↦ rw (w .2) (search needs, rows-set _ _ _ _ _ (inv .1) (turn .loop-test .taken) (w .1 .ensures), inv .2)
+      | inr w ↦ rw (w .1) (search needs, rows-keep _ _ _ _ (inv .1) (image-kept _ _ (none-in _ _ (c .before .first .ensures) (w .0 .left))), inv .2)
+    ]
 
 returns : tie.Need-returns Inv-loop μ-loop
 unfolding chain
@@ -59,6 +66,7 @@ then-spec =
     loop-holds
     mul-x
     array-copy-out-x
+    first-requires
     image-requires
     mul-h
     array-set-from-h
