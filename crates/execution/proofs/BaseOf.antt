@@ -1,13 +1,16 @@
 -- The arrays of a recording hold its base. Assumes nothing.
 use mathlib.Core.Path.{_≡_, sym, ap, subst, _∙_}
-use mathlib.Core.List.{List}
-use Prim.Native.Nat.{ℕ, suc}
+use mathlib.Core.List.{List, []}
+use Prim.Native.Nat.{ℕ, suc, _≤_, _<_}
 use native.Mathlib.Omega.{arith}
-use Rattle.relation.specs.Rel.{nodes}
+use lib.ListN.{getD}
+use Rattle.relation.specs.Rel.{Rel, inverse, nodes}
+use Rattle.relation.specs.Bits.{edge}
 use Rattle.models.specs.Recording.{Recording, SetName}
 use Rattle.models.specs.Graph.{Base, base}
 use Rattle.recording.specs.Decode.{decode}
 use Rattle.recording.specs.Load.{causeFor}
+use Rattle.recording.specs.Sets.{LinkRows}
 use Rattle.models.specs.Rules.{Model, verdict}
 use Rattle.models.proofs.Agree.{recording-verdict}
 use Rattle.recording.proofs.Loaded.{loaded-within}
@@ -36,6 +39,12 @@ base-of r sets relations s t =
       ctrl = t .ctrl i;
       casdep = t .casdep i;
     }
+
+-- Links that are held by target, turned.
+pub links-of : (f : List ℕ) (rows : List (List (List ℕ))) → LinkRows f rows → (t : ℕ) → 1 ≤ t → t < 8 → (g : Rel) → g ≡ inverse (edge (getD rows t []))
+    → g ≡ decode f .link t
+unfolding inverse
+links-of f rows w t h k g p = p ∙ ap inverse (w .grid t h k)
 
 -- A verdict over the arrays of a file is one on the file.
 module _ (k : ℕ) (M : Model) (Judged : Base → Verdict → Type 0) (f : List ℕ) (v : Verdict) (n : ℕ) (cause : n ≡ causeFor k f) where

@@ -73,11 +73,11 @@ pub fn sets(file: &[u8]) -> [[u8; 8]; 14]
 }
 
 // Control dependencies: the links, taken on to all events later in program order.
-pub fn control(file: &[u8], po: [[u8; 8]; 64]) -> [[u8; 8]; 64]
-    requires { ⌜ (refusal (now file) ≡ 0) × (edge po ≡ base nodes (decode (now file)) .po) ⌝ }
+pub fn control(file: &[u8], po: [[u8; 8]; 64], links: [[u8; 8]; 64]) -> [[u8; 8]; 64]
+    requires { ⌜ (refusal (now file) ≡ 0) × (edge po ≡ base nodes (decode (now file)) .po) × (edge links ≡ decode (now file) .link 6) ⌝ }
     ensures { λ r. ⌜ edge r ≡ base nodes (decode (now (file .entry))) .ctrl ⌝ }
 {
-    grid::then(graph::links(file, 6), grid::optional(po, events(file)))
+    grid::then(links, grid::optional(po, events(file)))
 }
 
 // The relations: same location, program order, rf, co, rmw, data, addr, ctrl, casdep.
@@ -85,16 +85,18 @@ pub fn relations(file: &[u8]) -> [[[u8; 8]; 64]; 9]
     requires { ⌜ refusal (now file) ≡ 0 ⌝ }
     ensures { λ r. ⌜ RelationsOf (base nodes (decode (now (file .entry)))) r ⌝ }
 {
+    let location = graph::same_location(file);
     let po = graph::program_order(file);
+    let rows = graph::rows_by_type(file);
     [
-        graph::same_location(file),
+        location,
         po,
-        graph::links(file, 1),
-        graph::coherence(file),
-        graph::links(file, 3),
-        graph::links(file, 4),
-        graph::links(file, 5),
-        control(file, po),
-        graph::links(file, 7),
+        grid::inverse(rows[1]),
+        graph::coherence(file, grid::inverse(rows[2]), location),
+        grid::inverse(rows[3]),
+        grid::inverse(rows[4]),
+        grid::inverse(rows[5]),
+        control(file, po, grid::inverse(rows[6])),
+        grid::inverse(rows[7]),
     ]
 }

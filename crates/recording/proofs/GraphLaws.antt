@@ -9,7 +9,9 @@ use native.Mathlib.Omega.{arith}
 use native.Mathlib.Decide.{ℕ-discrete, decLt}
 use borrow.Author.Tests.{eq-eqb, ne-eqb, eqb-true, lt-leb, le-ltb, ltb-true, leb-true}
 use lib.Dec.{eqb, leb, ltb}
+use lib.ListN.{getD, replicate}
 use Rattle.relation.specs.Rel.{Set, Rel, empty, none, single, union, intersection, product, inverse, either, both, some, below, plus, nodes}
+use Rattle.relation.specs.Bits.{edge}
 use Rattle.relation.proofs.Meaning.{Mem, and-left, and-right, and-both, or-either, or-left, or-right, some-sound, some-complete, mem-below, below-mem}
 use Rattle.relation.proofs.SetLaws.{or-comm, or-false, and-false}
 use Rattle.models.specs.Recording.{Recording, event, ofClass, ofMode, flagged, access, sameLocation, coStep}
@@ -18,12 +20,13 @@ use Rattle.recording.specs.Layout.{events, locations, eventByte, Sized}
 use Rattle.recording.specs.Chains.{each, nextEvent}
 use Rattle.recording.specs.Decode.{isRecorded, isInitial, decode, recordOr, fieldOr}
 use Rattle.recording.specs.Causes.{legal, eventLegal, readLegal, writeLegal}
-use Rattle.recording.specs.Sets.{accessAt, membersOf}
+use Rattle.recording.specs.Sets.{accessAt, membersOf, SourcesInto, LinkRows}
 use Rattle.recording.specs.declared.Members.{Members}
 use Rattle.recording.specs.declared.Members.the-variants.{Recorded, Initial, Class, Mode, Flagged, At}
 use Rattle.recording.proofs.FieldLaws.{recorded-bounds, event-small, location-initial}
 use Rattle.recording.proofs.ChainLaws.{each-at}
 use Rattle.recording.proofs.LegalLaws.{next-first}
+use Rattle.recording.proofs.LinkLaws.{empty-row}
 
 -- A test that is true only of numbers below 64 is false from 64 on.
 refuted : (b : Bool) → (b ≡ true → ⊥) → b ≡ false
@@ -39,25 +42,38 @@ initial-out f s e h =
     refuted (leb 56 e && ltb e (56 + locations f))
     (λ p. let w = ltb-true e (56 + locations f) (and-right (leb 56 e) (ltb e (56 + locations f)) p) in omega (arith, s .most-locations))
 
-event-out : (f : List ℕ) → Sized f → (e : ℕ) → 64 ≤ e → event (decode f) e ≡ false
-event-out f s e h = refuted (event (decode f) e) (λ p. let w = event-small f e s p in omega arith)
+-- What is no event is in no set.
+module _ (f : List ℕ) (e : ℕ) (r : isRecorded f e ≡ false) (i : isInitial f e ≡ false) where
+  event-none : event (decode f) e ≡ false
+  unfolding event decode
+  event-none = rw (i, r)
 
-class-out : (f : List ℕ) → Sized f → (k e : ℕ) → 64 ≤ e → ofClass (decode f) k e ≡ false
-unfolding ofClass
-class-out f s k e h = rw (event-out f s e h)
+  class-none : (k : ℕ) → ofClass (decode f) k e ≡ false
+  unfolding ofClass
+  class-none k = rw event-none
 
-access-out : (f : List ℕ) → Sized f → (e : ℕ) → 64 ≤ e → access (decode f) e ≡ false
-unfolding access
-access-out f s e h = rw (class-out f s 1 e h, class-out f s 2 e h)
+  access-none : access (decode f) e ≡ false
+  unfolding access
+  access-none = rw (class-none 1, class-none 2)
+
+  members-none : (s : Members) → membersOf f s e ≡ false
+  unfolding membersOf ofMode flagged accessAt
+  members-none Recorded = r
+  members-none Initial = i
+  members-none (Class k) = class-none k
+  members-none (Mode k m) = rw (class-none k)
+  members-none (Flagged k) = rw (class-none k)
+  members-none (At l) = rw access-none
 
 pub members-out : (f : List ℕ) → Sized f → (s : Members) (e : ℕ) → 64 ≤ e → membersOf f s e ≡ false
-unfolding membersOf ofMode flagged accessAt
-members-out f z Recorded e h = recorded-out f z e h
-members-out f z Initial e h = initial-out f z e h
-members-out f z (Class k) e h = class-out f z k e h
-members-out f z (Mode k m) e h = rw (class-out f z k e h)
-members-out f z (Flagged k) e h = rw (class-out f z k e h)
-members-out f z (At l) e h = rw (access-out f z e h)
+members-out f z s e h = members-none f e (recorded-out f z e h) (initial-out f z e h) s
+
+-- No event is numbered between the records and the initial writes.
+pub members-gap : (f : List ℕ) (s : Members) (e : ℕ) → events f < e → e < 56 → membersOf f s e ≡ false
+unfolding isInitial
+members-gap f s e h g =
+    members-none f e (refuted (isRecorded f e) (λ p. let (a, b) = recorded-bounds f e p in omega arith))
+    (refuted (leb 56 e && ltb e (56 + locations f)) (λ p. let w = leb-true 56 e (and-left (leb 56 e) (ltb e (56 + locations f)) p) in omega arith)) s
 
 -- Membership by cases.
 module _ (f : List ℕ) (s : Members) (e : ℕ) (b : Bool) where
@@ -128,6 +144,27 @@ link-none f t b s e p = e ∙ fun-ext (λ x. rw p)
 pub link-out : (f : List ℕ) → Sized f → (t b : ℕ) → 64 ≤ b → inverse (decode f .link t) b ≡ empty
 link-out f s t b h = sym (link-none f t b empty refl (recorded-out f s b h))
 
+-- The links into every number, by type.
+pub sources-none : (f : List ℕ) (b : ℕ) → isRecorded f b ≡ false → SourcesInto f b (replicate 8 (replicate 8 0))
+sources-none f b p = record { long = refl; row = λ t h. link-none f t b _ (empty-row 8 t) p }
+
+pub link-rows : (f : List ℕ) (e rf co rmw da ad ct ca : List (List ℕ)) → edge rf ≡ inverse (decode f .link 1) → edge co ≡ inverse (decode f .link 2)
+    → edge rmw ≡ inverse (decode f .link 3) → edge da ≡ inverse (decode f .link 4) → edge ad ≡ inverse (decode f .link 5)
+    → edge ct ≡ inverse (decode f .link 6) → edge ca ≡ inverse (decode f .link 7)
+    → LinkRows f (e ∷ rf ∷ co ∷ rmw ∷ da ∷ ad ∷ ct ∷ ca ∷ [])
+link-rows f e rf co rmw da ad ct ca p1 p2 p3 p4 p5 p6 p7 = record { grid = go }
+  where
+    go : (t : ℕ) → 1 ≤ t → t < 8 → edge (getD (e ∷ rf ∷ co ∷ rmw ∷ da ∷ ad ∷ ct ∷ ca ∷ []) t []) ≡ inverse (decode f .link t)
+    go zero h k = absurd (omega arith)
+    go (suc zero) h k = p1
+    go (suc (suc zero)) h k = p2
+    go (suc (suc (suc zero))) h k = p3
+    go (suc (suc (suc (suc zero)))) h k = p4
+    go (suc (suc (suc (suc (suc zero))))) h k = p5
+    go (suc (suc (suc (suc (suc (suc zero)))))) h k = p6
+    go (suc (suc (suc (suc (suc (suc (suc zero))))))) h k = p7
+    go (suc (suc (suc (suc (suc (suc (suc (suc t)))))))) h k = absurd (omega arith)
+
 -- Program order, as the code makes it.
 pub po-is : (f : List ℕ) (i e : Set) (a b c d : Rel) → i ≡ isInitial f → e ≡ isRecorded f → a ≡ product i e → c ≡ decode f .next → d ≡ plus nodes c
     → b ≡ either a d → b ≡ base nodes (decode f) .po
@@ -151,7 +188,7 @@ located-more f k r s t u p q v w =
     ∙ or-comm (some (below k) (λ l. accessAt f l a && accessAt f l b)) (accessAt f k a && accessAt f k b)
     ∙ ap (λ (n : ℕ). some (below n) (λ l. accessAt f l a && accessAt f l b)) (sym (add-one k))))
 
--- In a file whose events are legal, reads and writes have one of the first eight locations.
+-- In a file whose events are legal, reads and writes have one of its locations.
 legal-read-location : (k L class mode flag location value : ℕ) → class ≡ 1 → legal k L class mode flag location value ≡ true → location < L
 unfolding legal
 legal-read-location k L class mode flag location value e p =
@@ -189,15 +226,15 @@ module _ (f : List ℕ) (s : Sized f) (legal-events : each (events f) (eventLega
   class-location k e p g =
       elim (or-either (isInitial f e) (isRecorded f e) (class-event f k e p)) [ inl q ↦ initial-location e q | inr q ↦ g q ]
 
-  pub access-location : (e : ℕ) → access (decode f) e ≡ true → decode f .location e < 8
+  access-location : (e : ℕ) → access (decode f) e ≡ true → decode f .location e < locations f
   unfolding access eventLegal
   access-location e p =
       elim (or-either (ofClass (decode f) 1 e) (ofClass (decode f) 2 e) p) [
-        | inl q ↦ let w = class-location 1 e q (λ r. legal-read-location _ _ _ _ _ _ _ (class-is f 1 e q) (recorded-legal e r)) in omega (arith, s .most-locations)
-        | inr q ↦ let w = class-location 2 e q (λ r. legal-write-location _ _ _ _ _ _ _ (class-is f 2 e q) (recorded-legal e r)) in omega (arith, s .most-locations)
+        | inl q ↦ class-location 1 e q (λ r. legal-read-location _ _ _ _ _ _ _ (class-is f 1 e q) (recorded-legal e r))
+        | inr q ↦ class-location 2 e q (λ r. legal-write-location _ _ _ _ _ _ _ (class-is f 2 e q) (recorded-legal e r))
       ]
 
-  pub located-all : (k : ℕ) (r : Rel) → 8 ≤ k → r ≡ located f k → r ≡ sameLocation (decode f)
+  pub located-all : (k : ℕ) (r : Rel) → locations f ≤ k → r ≡ located f k → r ≡ sameLocation (decode f)
   unfolding located sameLocation accessAt
   located-all k r h p = p ∙ fun-ext (λ a. fun-ext (λ b. same-bool _ _ (one-way a b) (other-way a b)))
     where

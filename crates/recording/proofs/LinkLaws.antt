@@ -5,15 +5,22 @@ use mathlib.Core.List.{List, [], _∷_}
 use Prim.Native.Nat.{ℕ, zero, suc, _+_, _-_, _*_, _<_, _≤_}
 use native.Mathlib.Numerals.{add-one}
 use native.Mathlib.Omega.{arith}
+use native.Mathlib.Decide.{ℕ-discrete}
 use borrow.Author.Tests.{ne-eqb, eq-eqb, leb-true, ltb-true}
 use lib.Dec.{eqb, leb, ltb}
+use lib.ListN.{length, getD, set, replicate, length-set}
+use lib.Seq.{getD-set-same, getD-set-other}
 use Rattle.relation.specs.Rel.{Set, empty, single, union, inverse, some}
+use Rattle.relation.specs.Bits.{bit}
+use Rattle.relation.proofs.ByteLaws.{bit-none}
+use Rattle.relation.proofs.GridLaws.{bit-nil}
 use Rattle.relation.proofs.Meaning.{and-left, and-right}
 use Rattle.relation.proofs.SetLaws.{or-false, and-false}
 use Rattle.recording.specs.Layout.{events, links, linkByte, Sized}
 use Rattle.recording.specs.Chains.{follow, chain, nextOf, nextLink, firstLink, linksInto}
 use Rattle.recording.specs.Decode.{isRecorded, decode}
 use Rattle.recording.specs.Causes.{allOf, within, readable}
+use Rattle.recording.specs.Sets.{SourcesInto}
 use Rattle.recording.proofs.FieldLaws.{recorded-is}
 use Rattle.recording.proofs.ChainLaws.{follow-in, follow-none, follow-end}
 
@@ -141,3 +148,43 @@ module _ (f : List ℕ) (t b : ℕ) where
       fun-ext
       (λ a. sym (or-false (r a)) ∙ ap (λ (l : List ℕ). r a || some l (leads f t a)) (sym e) ∙ w .same a
       ∙ ap (λ (c : Bool). c && some (linksInto f b) (leads f t a)) (sym (recorded-is f b h g)))
+
+-- The same for every type below 8 at once, a row for each.
+pub record Sorted (f : List ℕ) (b n x : ℕ) (h : List (List ℕ)) : Type 0 where
+  pub long : length h ≡ 8
+  pub each : (t : ℕ) → t < 8 → Gathered f t b n x (bit (getD h t []))
+
+pub empty-row : (n t : ℕ) → bit (getD (replicate n (replicate 8 0)) t []) ≡ empty
+empty-row zero t = bit-nil
+empty-row (suc n) zero = bit-none
+empty-row (suc n) (suc t) = empty-row n t
+
+module _ (f : List ℕ) (b : ℕ) where
+  pub sorted-start : (n x : ℕ) → n ≡ links f → x ≡ firstLink f (b - 1) → allOf (linksInto f b) (readable f) ≡ true
+      → Sorted f b (n + 1) x (replicate 8 (replicate 8 0))
+  sorted-start n x i s g = record { long = refl; each = λ t h. gathered-start f t b n x _ (empty-row 8 t) i s g }
+
+  pub sorted-head : (n m x : ℕ) (h : List (List ℕ)) → n ≡ suc m → (x ≡ 0 → ⊥) → Sorted f b n x h → readable f x ≡ true
+  sorted-head n m x h e d w = gathered-head f 0 b n m x _ e d (w .each 0 (omega arith))
+
+  pub sorted-with : (n m x y v s : ℕ) (h : List (List ℕ)) (r : List ℕ) → n ≡ suc m → (x ≡ 0 → ⊥) → Sorted f b n x h → y ≡ nextLink f x
+      → v ≡ linkByte f x 1 → v < 8 → s ≡ linkByte f x 2 → bit r ≡ union (bit (getD h v [])) (single s) → Sorted f b m y (set h v r)
+  sorted-with n m x y v s h r e d w i j k l o =
+      record {
+        long = length-set h v r ∙ w .long;
+        each = λ t g. elim (ℕ-discrete v t) [
+          | yes p ↦ subst (λ (u : ℕ). Gathered f u b m y (bit (getD (set h v r) u []))) p
+              (subst (Gathered f v b m y) (ap bit (sym (getD-set-same h v r [] (omega (arith, k, w .long)))))
+              (gathered-with f v b n m x y v s _ _ e d (w .each v k) i j refl l o))
+          | no p ↦ subst (Gathered f t b m y) (ap bit (sym (getD-set-other h v t r [] (λ q. p (sym q)))))
+              (gathered-keep f t b n m x y v _ e d (w .each t g) i j p)
+        ];
+      }
+
+  pub sorted-keep : (n m x y v : ℕ) (h : List (List ℕ)) → n ≡ suc m → (x ≡ 0 → ⊥) → Sorted f b n x h → y ≡ nextLink f x
+      → v ≡ linkByte f x 1 → 8 ≤ v → Sorted f b m y h
+  sorted-keep n m x y v h e d w i j k =
+      record { long = w .long; each = λ t g. gathered-keep f t b n m x y v _ e d (w .each t g) i j (λ p. omega arith) }
+
+  pub sorted-done : (n x : ℕ) (h : List (List ℕ)) → 1 ≤ b → b ≤ events f → Sorted f b n x h → left f n x ≡ [] → SourcesInto f b h
+  sorted-done n x h l g w e = record { long = w .long; row = λ t k. gathered-done f t b n x _ l g (w .each t k) e }

@@ -1,9 +1,12 @@
--- The sets of events that `Members` names. Assumes nothing.
+-- The sets of events that `Members` names, and arrays of link sources. Assumes nothing.
 use mathlib.Core.Bool.{_&&_}
-use mathlib.Core.List.{List}
-use Prim.Native.Nat.{ℕ}
+use mathlib.Core.Path.{_≡_}
+use mathlib.Core.List.{List, []}
+use Prim.Native.Nat.{ℕ, _≤_, _<_}
 use lib.Dec.{eqb}
-use Rattle.relation.specs.Rel.{Set}
+use lib.ListN.{length, getD}
+use Rattle.relation.specs.Rel.{Set, inverse}
+use Rattle.relation.specs.Bits.{bit, edge}
 use Rattle.models.specs.Recording.{ofClass, ofMode, flagged, access}
 use Rattle.recording.specs.Decode.{isRecorded, isInitial, decode}
 use Rattle.recording.specs.declared.Members.{Members}
@@ -20,3 +23,12 @@ membersOf f (Class k) = ofClass (decode f) k
 membersOf f (Mode k m) = ofMode (decode f) k m
 membersOf f (Flagged k) = flagged (decode f) k
 membersOf f (At l) = accessAt f l
+
+-- The rows hold the sources of the links into b, by type.
+pub record SourcesInto (f : List ℕ) (b : ℕ) (rows : List (List ℕ)) : Type 0 where
+  pub long : length rows ≡ 8
+  pub row : (t : ℕ) → t < 8 → bit (getD rows t []) ≡ inverse (decode f .link t) b
+
+-- The grids hold the links of types 1 to 7, each at its type's place, with a row for each target.
+pub record LinkRows (f : List ℕ) (grids : List (List (List ℕ))) : Type 0 where
+  pub grid : (t : ℕ) → 1 ≤ t → t < 8 → edge (getD grids t []) ≡ inverse (decode f .link t)

@@ -93,7 +93,8 @@ pub fn co_ring(file: &[u8]) -> bool
     requires { ⌜ Readable (now file) × (each (events (now file)) (eventLegal (now file)) ≡ true) ⌝ }
     ensures { λ r. ⌜ r ≡ coRing (now (file .entry)) ⌝ }
 {
-    row::first(grid::diagonal(graph::coherence(file))) < 64
+    let co = graph::coherence(file, graph::links(file, 2), graph::same_location(file));
+    row::first(grid::diagonal(co)) < 64
 }
 
 // Whether the thread chains meet every event once: four heads from byte 4 on, event records of 8 bytes from byte 8 on.

@@ -4,7 +4,7 @@
 ghost use mathlib.Core.Path.{_≡_};
 ghost use Prim.Native.Nat.{_≤_, _<_};
 ghost use Rattle.models.specs.Recording.{event, ofClass, ofMode, flagged, access};
-ghost use Rattle.recording.specs.Layout.{byte, events, links, eventByte, linkByte, Sized};
+ghost use Rattle.recording.specs.Layout.{byte, events, locations, links, eventByte, linkByte, Sized};
 ghost use Rattle.recording.specs.Decode.{isRecorded, isInitial, fieldOr, decode};
 
 // The number of event records.
@@ -21,6 +21,14 @@ pub fn links(file: &[u8]) -> usize
     ensures { λ r. ⌜ (r ≡ links (now (file .entry))) × (r < 256) ⌝ }
 {
     file[3] as usize
+}
+
+// The number of locations.
+pub fn locations(file: &[u8]) -> usize
+    requires { ⌜ Sized (now file) ⌝ }
+    ensures { λ r. ⌜ (r ≡ locations (now (file .entry))) × (r ≤ 8) ⌝ }
+{
+    file[2] as usize
 }
 
 // Byte k of event record i.
@@ -54,7 +62,7 @@ pub fn is_initial(file: &[u8], e: usize) -> bool
     requires { ⌜ Sized (now file) ⌝ }
     ensures { λ r. ⌜ r ≡ isInitial (now (file .entry)) e ⌝ }
 {
-    let l = file[2] as usize;
+    let l = locations(file);
     56 <= e && e < 56 + l
 }
 

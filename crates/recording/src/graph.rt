@@ -17,7 +17,7 @@ ghost use Rattle.recording.specs.Layout.{events, Sized};
 ghost use Rattle.recording.specs.Chains.{each};
 ghost use Rattle.recording.specs.Decode.{decode};
 ghost use Rattle.recording.specs.Causes.{eventLegal, Readable};
-ghost use Rattle.recording.specs.Sets.{accessAt, membersOf};
+ghost use Rattle.recording.specs.Sets.{accessAt, membersOf, SourcesInto, LinkRows};
 
 // Whether e is a read or write of location l.
 pub fn access_at(file: &[u8], e: usize, l: usize) -> bool
@@ -46,12 +46,17 @@ pub fn members(file: &[u8], s: Members) -> [u8; 8]
     requires { ⌜ Sized (now file) ⌝ }
     ensures { λ r. ⌜ bit r ≡ membersOf (now (file .entry)) s ⌝ }
 {
+    let n = field::events(file);
     let mut r = row::none();
     let mut e: usize = 0;
     while e < 64 {
         if is_member(file, s, e) {
             let z = row::with(r, e);
             r = z;
+        }
+        // No event is numbered between the records and the initial writes.
+        if e == n {
+            e = 55;
         }
         e += 1;
     }
@@ -110,6 +115,44 @@ pub fn sources_of(file: &[u8], b: usize, t: usize) -> [u8; 8]
     links::sources(file, b, t)
 }
 
+// The sources of the links into b, with a row for each type below 8, where b need be no event.
+pub fn sources_by_type(file: &[u8], b: usize) -> [[u8; 8]; 8]
+    requires { ⌜ Readable (now file) ⌝ }
+    ensures { λ r. ⌜ SourcesInto (now (file .entry)) b r ⌝ }
+{
+    if !field::is_recorded(file, b) {
+        return [[0u8; 8]; 8];
+    }
+    links::by_type(file, b)
+}
+
+// The links of every type, with a row for each target; those of type t stand at place t.
+pub fn rows_by_type(file: &[u8]) -> [[[u8; 8]; 64]; 8]
+    requires { ⌜ Readable (now file) ⌝ }
+    ensures { λ r. ⌜ LinkRows (now (file .entry)) r ⌝ }
+{
+    let mut rf = grid::empty();
+    let mut co = grid::empty();
+    let mut rmw = grid::empty();
+    let mut data = grid::empty();
+    let mut addr = grid::empty();
+    let mut ctrl = grid::empty();
+    let mut casdep = grid::empty();
+    let mut b: usize = 0;
+    while b < 64 {
+        let sources = sources_by_type(file, b);
+        rf[b] = sources[1];
+        co[b] = sources[2];
+        rmw[b] = sources[3];
+        data[b] = sources[4];
+        addr[b] = sources[5];
+        ctrl[b] = sources[6];
+        casdep[b] = sources[7];
+        b += 1;
+    }
+    [grid::empty(), rf, co, rmw, data, addr, ctrl, casdep]
+}
+
 // The links of type t, with a row for each target.
 pub fn link_rows(file: &[u8], t: usize) -> [[u8; 8]; 64]
     requires { ⌜ Readable (now file) ⌝ }
@@ -132,14 +175,15 @@ pub fn links(file: &[u8], t: usize) -> [[u8; 8]; 64]
     grid::inverse(link_rows(file, t))
 }
 
-// The reads and writes of one location, for each of the first eight.
+// The reads and writes of one location, for each location.
 pub fn same_location(file: &[u8]) -> [[u8; 8]; 64]
     requires { ⌜ Sized (now file) × (each (events (now file)) (eventLegal (now file)) ≡ true) ⌝ }
     ensures { λ r. ⌜ edge r ≡ sameLocation (decode (now (file .entry))) ⌝ }
 {
+    let n = field::locations(file);
     let mut h = grid::empty();
     let mut l: usize = 0;
-    while l < 8 {
+    while l < n {
         let s = members(file, Members::At(l));
         let z = grid::or(h, grid::product(s, s));
         h = z;
@@ -149,8 +193,8 @@ pub fn same_location(file: &[u8]) -> [[u8; 8]; 64]
 }
 
 // What co follows from: its links, and initial before recorded writes of one location.
-pub fn co_steps(file: &[u8]) -> [[u8; 8]; 64]
-    requires { ⌜ Readable (now file) × (each (events (now file)) (eventLegal (now file)) ≡ true) ⌝ }
+pub fn co_steps(file: &[u8], links: [[u8; 8]; 64], location: [[u8; 8]; 64]) -> [[u8; 8]; 64]
+    requires { ⌜ Sized (now file) × (edge links ≡ decode (now file) .link 2) × (edge location ≡ sameLocation (decode (now file))) ⌝ }
     ensures { λ r. ⌜ edge r ≡ coStep (decode (now (file .entry))) ⌝ }
 {
     let writes = row::and(
@@ -158,13 +202,13 @@ pub fn co_steps(file: &[u8]) -> [[u8; 8]; 64]
         members(file, Members::Class(2)),
     );
     let first = grid::product(members(file, Members::Initial), writes);
-    grid::or(links(file, 2), grid::and(first, same_location(file)))
+    grid::or(links, grid::and(first, location))
 }
 
-// Coherence order.
-pub fn coherence(file: &[u8]) -> [[u8; 8]; 64]
-    requires { ⌜ Readable (now file) × (each (events (now file)) (eventLegal (now file)) ≡ true) ⌝ }
+// Coherence order, from its links and from which events are of one location.
+pub fn coherence(file: &[u8], links: [[u8; 8]; 64], location: [[u8; 8]; 64]) -> [[u8; 8]; 64]
+    requires { ⌜ Sized (now file) × (edge links ≡ decode (now file) .link 2) × (edge location ≡ sameLocation (decode (now file))) ⌝ }
     ensures { λ r. ⌜ edge r ≡ base nodes (decode (now (file .entry))) .co ⌝ }
 {
-    grid::closure(co_steps(file))
+    grid::closure(co_steps(file, links, location))
 }

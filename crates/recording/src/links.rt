@@ -14,6 +14,7 @@ ghost use Rattle.recording.specs.Layout.{events, Sized};
 ghost use Rattle.recording.specs.Chains.{each, linksInto};
 ghost use Rattle.recording.specs.Decode.{decode};
 ghost use Rattle.recording.specs.Causes.{allOf, linkSound, oneSource, linksSoundAt, within, readable, Readable};
+ghost use Rattle.recording.specs.Sets.{SourcesInto};
 
 // Whether every link into b is sound, where po is program order.
 pub fn sound_into(file: &[u8], po: [[u8; 8]; 64], b: usize) -> bool
@@ -61,4 +62,30 @@ pub fn sources(file: &[u8], b: usize, t: usize) -> [u8; 8]
         n -= 1;
     }
     r
+}
+
+// The sources of the links into b, with a row for each type below 8.
+pub fn by_type(file: &[u8], b: usize) -> [[u8; 8]; 8]
+    requires { ⌜ Sized (now file) × (1 ≤ b) × (b ≤ events (now file)) × (allOf (linksInto (now file) b) (readable (now file)) ≡ true) ⌝ }
+    ensures { λ r. ⌜ SourcesInto (now (file .entry)) b r ⌝ }
+{
+    let from = 8 + 8 * field::events(file);
+    let mut h = [[0u8; 8]; 8];
+    let mut n = field::links(file) + 1;
+    let mut cursor = Cursor::start(file, 15, 8, b - 1);
+    while 0 < n {
+        let m = cursor.at;
+        if m == 0 {
+            return h;
+        }
+        let t = field::link_byte(file, m, 1);
+        if t < 8 {
+            let x = h[t];
+            h[t] = row::with(x, field::link_byte(file, m, 2));
+        }
+        let next = cursor.moved(file, from, 4);
+        cursor = next;
+        n -= 1;
+    }
+    h
 }

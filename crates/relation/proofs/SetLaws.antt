@@ -123,6 +123,15 @@ upto-keep k s t p e =
     (λ j. ap (λ (f : Set). f j) p ∙ sym (or-false (upto k s j))
     ∙ ap (λ (b : Bool). upto k s j || b) (sym (only s k j false e ∙ and-false (eqb k j))) ∙ sym (upto-split k s j))
 
+pub upto-skip : (k n : ℕ) (s t : Set) → k ≤ n → t ≡ upto k s → ((j : ℕ) → k ≤ j → j < n → s j ≡ false) → t ≡ upto n s
+unfolding upto
+upto-skip k n s t h p out = p ∙ fun-ext (λ j. go j (decLt j k) (decLt j n))
+  where
+    go : (j : ℕ) → Dec (j < k) → Dec (j < n) → ltb j k && s j ≡ ltb j n && s j
+    go j (yes a) b = ap (λ (x : Bool). x && s j) (lt-ltb j k a ∙ sym (lt-ltb j n (omega arith)))
+    go j (no a) (yes b) = ap (λ (x : Bool). ltb j k && x) (out j (omega (arith, a)) b) ∙ and-false (ltb j k) ∙ sym (ap (λ (x : Bool). ltb j n && x) (out j (omega (arith, a)) b) ∙ and-false (ltb j n))
+    go j (no a) (no b) = ap (λ (x : Bool). x && s j) (le-ltb j k (omega (arith, a)) ∙ sym (le-ltb j n (omega (arith, b))))
+
 pub upto-done : (k n : ℕ) (s t : Set) → n ≤ k → t ≡ upto k s → ((j : ℕ) → n ≤ j → s j ≡ false) → t ≡ s
 unfolding upto
 upto-done k n s t h p out =

@@ -9,10 +9,10 @@ use native.Mathlib.Decide.{decLt}
 use lib.Dec.{eqb, ltb}
 use lib.Arith.{lt-one}
 use lib.Pow.{pow-add, shr-lt, shl-shr, shr-shr}
-use lib.Bits.{bitOr, or-shifted, shifted-even}
-use lib.Count.{trailingZeros, under, trailing-le}
+use lib.Bits.{bitAnd, bitOr, and-mask, or-shifted, shifted-even}
+use lib.Count.{ones, ones-step, ones-le, trailingZeros, under, trailing-le}
 use lib.ListN.{length, getD, List·getD-eq-default}
-use Rattle.relation.specs.Rel.{Set, least, Next}
+use Rattle.relation.specs.Rel.{Set, least, count, Next}
 use Rattle.relation.specs.Bits.{on, bit, word}
 use Rattle.relation.proofs.ByteLaws.{on-or, on-zero, bit-in, bit-out}
 use Rattle.relation.proofs.SetLaws.{or-false, Least, least-is}
@@ -148,3 +148,48 @@ module _ (s : Set) (w : ℕ) (is : s ≡ on w) (i : ℕ) where
 
 pub next-end : (s : Set) (i : ℕ) → i ≡ 64 → Next s i 64
 next-end s i e = record { low = omega arith; high = omega arith; before = λ m l k. absurd (omega arith); member = λ l. absurd (omega arith) }
+
+-- Whether a bit is on, as the code tests it.
+pub on-has : (w j : ℕ) → eqb (bitAnd (w / 2 ^ j) 1) 1 ≡ on w j
+unfolding on
+on-has w j = ap (λ (n : ℕ). eqb n 1) (and-mask (w / 2 ^ j) 1)
+
+-- The set bits of a number are as many as the members of the set of its bits.
+digit : Bool → ℕ
+digit true = 1
+digit false = 0
+
+count-first : (n : ℕ) (s : Set) → count (suc n) s ≡ digit (s 0) + count n (λ j. s (suc j))
+unfolding count digit
+count-first zero s = go (s 0)
+  where
+    go : (b : Bool) → elim b [ true ↦ suc zero | false ↦ zero ] ≡ digit b + 0
+    go true = refl
+    go false = refl
+count-first (suc n) s = go (s (suc n)) (count-first n s)
+  where
+    go : (b : Bool) → count (suc n) s ≡ digit (s 0) + count n (λ j. s (suc j))
+        → elim b [ true ↦ suc (count (suc n) s) | false ↦ count (suc n) s ]
+            ≡ digit (s 0) + elim b [ true ↦ suc (count n (λ j. s (suc j))) | false ↦ count n (λ j. s (suc j)) ]
+    go true e = omega (arith, e)
+    go false e = e
+
+ones-none : ones 0 ≡ 0
+unfolding ones
+ones-none = refl
+
+pub ones-few : (w : ℕ) → w < 2 ^ 64 → ones w ≤ 64
+ones-few w h = ones-le 64 w h
+
+pub ones-count : (k w : ℕ) → w < 2 ^ k → ones w ≡ count k (on w)
+unfolding count digit
+ones-count zero w h = ap ones (lt-one h) ∙ ones-none
+ones-count (suc k) w h =
+    ones-step w
+    ∙ ap₂ _+_ (low (w % 2) (omega arith)) (ones-count k (w / 2) (shr-lt k 1 (subst (λ (n : ℕ). w < 2 ^ n) (omega arith) h)))
+    ∙ sym (count-first k (on w) ∙ ap₂ _+_ (ap digit (on-lowest w)) (ap (count k) (on-half w)))
+  where
+    low : (d : ℕ) → d < 2 → d ≡ digit (eqb d 1)
+    low zero g = refl
+    low (suc zero) g = refl
+    low (suc (suc d)) g = absurd (omega arith)

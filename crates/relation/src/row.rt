@@ -20,12 +20,26 @@ pub fn all() -> [u8; 8]
     [255u8; 8]
 }
 
+// The row as one number, whose bit j is event j.
+fn word(row: [u8; 8]) -> u64
+    ensures { λ r. ⌜ bit row ≡ on r ⌝ }
+{
+    (row[0] as u64)
+        + 0x100 * (row[1] as u64)
+        + 0x10000 * (row[2] as u64)
+        + 0x1000000 * (row[3] as u64)
+        + 0x100000000 * (row[4] as u64)
+        + 0x10000000000 * (row[5] as u64)
+        + 0x1000000000000 * (row[6] as u64)
+        + 0x100000000000000 * (row[7] as u64)
+}
+
 // Whether j is in the set.
 pub fn has(row: [u8; 8], j: usize) -> bool
     requires { ⌜ j < 64 ⌝ }
     ensures { λ r. ⌜ r ≡ bit row j ⌝ }
 {
-    (row[j >> 3] >> (j & 7)) & 1 == 1
+    (word(row) >> j) & 1 == 1
 }
 
 // The set with j.
@@ -87,20 +101,6 @@ pub fn minus(a: [u8; 8], b: [u8; 8]) -> [u8; 8]
     r
 }
 
-// The row as one number, whose bit j is event j.
-fn word(row: [u8; 8]) -> u64
-    ensures { λ r. ⌜ bit row ≡ on r ⌝ }
-{
-    (row[0] as u64)
-        + 0x100 * (row[1] as u64)
-        + 0x10000 * (row[2] as u64)
-        + 0x1000000 * (row[3] as u64)
-        + 0x100000000 * (row[4] as u64)
-        + 0x10000000000 * (row[5] as u64)
-        + 0x1000000000000 * (row[6] as u64)
-        + 0x100000000000000 * (row[7] as u64)
-}
-
 // The smallest member, or 64 where there is none.
 pub fn first(row: [u8; 8]) -> usize
     ensures { λ r. ⌜ r ≡ least 64 (bit row) ⌝ }
@@ -127,13 +127,5 @@ pub fn next(row: [u8; 8], i: usize) -> usize
 pub fn size(row: [u8; 8]) -> usize
     ensures { λ r. ⌜ r ≡ count 64 (bit row) ⌝ }
 {
-    let mut n: usize = 0;
-    let mut j: usize = 0;
-    while j < 64 {
-        if has(row, j) {
-            n += 1;
-        }
-        j += 1;
-    }
-    n
+    u64::count_ones(word(row)) as usize
 }

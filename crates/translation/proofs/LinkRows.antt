@@ -1,20 +1,25 @@
 -- Laws of the functions over links: the rows of their sources, and how many there are. Assumes nothing.
 use mathlib.Core.Path.{_≡_, refl, sym, ap, ap₂, _∙_, fun-ext}
 use mathlib.Core.Bool.{Bool, true, false, _&&_, _||_}
-use mathlib.Core.List.{List}
+use mathlib.Core.List.{List, []}
 use mathlib.Core.Logic.{_⊎_, inl, inr}
 use Prim.Native.Nat.{ℕ, suc, _+_, _*_, _<_, _≤_}
 use native.Mathlib.Numerals.{add-one}
 use native.Mathlib.Omega.{arith}
+use native.Mathlib.Decide.{ℕ-discrete}
 use borrow.Author.Tests.{le-leb, lt-leb, ne-eqb}
 use lib.Dec.{eqb, leb}
+use lib.ListN.{length, getD, set, length-set}
+use lib.Seq.{getD-set-same, getD-set-other}
 use Rattle.relation.specs.Rel.{Set, Rel, empty, single, union, intersection, either, inverse, some, image, chain, count, nodes}
+use Rattle.relation.specs.Bits.{bit}
 use Rattle.relation.proofs.Meaning.{and-left, and-right}
 use Rattle.relation.proofs.SetLaws.{or-false, and-false}
 use Rattle.models.specs.Recording as recording
 use Rattle.recording.specs.Layout.{events, eventByte}
 use Rattle.recording.specs.Decode.{isRecorded, decode}
 use Rattle.recording.specs.Causes.{Readable}
+use Rattle.recording.specs.Sets.{SourcesInto}
 use Rattle.recording.proofs.Truth.{is-false}
 use Rattle.recording.proofs.LegalLaws.{next-first}
 use Rattle.recording.proofs.Loaded.{loaded-readable}
@@ -22,7 +27,7 @@ use Rattle.translation.specs.Contents.{Contents, contents}
 use Rattle.translation.specs.Translate.{flagged, exclusive, newEvents, after, follows, controlled, fromExclusive, fromCasdep, newLink, translated}
 use Rattle.translation.specs.Encode.{isLink, linksBefore, linksUpTo}
 use Rattle.translation.specs.Answer.{chip}
-use Rattle.translation.specs.Parts.{Source, NewEvent, Ready, targets, ctrlInto}
+use Rattle.translation.specs.Parts.{Source, NewEvent, Ready, RowsInto, targets, ctrlInto}
 use Rattle.translation.proofs.Counting.{count-add, count-same, count-mono}
 use Rattle.translation.proofs.TranslateLaws as law
 use Rattle.translation.proofs.TranslateLaws.{flagged-is}
@@ -136,14 +141,14 @@ module _ (f : List ℕ) (s : Source f) where
   in-range : (b : ℕ) → NewEvent (contents f) b → (leb 1 b && leb b (newEvents (contents f))) ≡ true
   in-range b n = ap₂ _&&_ (le-leb 1 b (n .low)) (le-leb b (newEvents (contents f)) (n .high))
 
-  pub sources-ctrl : (b t : ℕ) (g : Rel) (r : Set) → NewEvent (contents f) b → t ≡ 6 → g ≡ ctrlInto (contents f) → r ≡ g b → r ≡ inverse (newLink (contents f) t) b
+  sources-ctrl : (b t : ℕ) (g : Rel) (r : Set) → NewEvent (contents f) b → t ≡ 6 → g ≡ ctrlInto (contents f) → r ≡ g b → r ≡ inverse (newLink (contents f) t) b
   unfolding ctrlInto inverse either union newLink
   sources-ctrl b t g r n e p q =
       q ∙ ap (λ (h : Rel). h b) p
       ∙ fun-ext (λ a. sym (ap (λ (k : ℕ). newLink (contents f) k a b) e
       ∙ ap (λ (x : Bool). x && (contents f .link 6 a b || (fromExclusive (contents f) a b || fromCasdep (contents f) a b))) (in-range b n)))
 
-  pub sources-none : (b t : ℕ) (r : Set) → (t ≡ 0) ⊎ (t ≡ 7) → r ≡ empty → r ≡ inverse (newLink (contents f) t) b
+  sources-none : (b t : ℕ) (r : Set) → (t ≡ 0) ⊎ (t ≡ 7) → r ≡ empty → r ≡ inverse (newLink (contents f) t) b
   unfolding inverse newLink empty
   sources-none b t r w e = e ∙ fun-ext (λ a. go w a)
     where
@@ -151,7 +156,7 @@ module _ (f : List ℕ) (s : Source f) where
       go (inl p) a = sym (ap (λ (k : ℕ). newLink (contents f) k a b) p ∙ and-false (leb 1 b && leb b (newEvents (contents f))))
       go (inr p) a = sym (ap (λ (k : ℕ). newLink (contents f) k a b) p ∙ and-false (leb 1 b && leb b (newEvents (contents f))))
 
-  pub sources-kept : (b t : ℕ) (r : Set) → NewEvent (contents f) b → (t ≡ 6 → ⊥) → (t ≡ 0 → ⊥) → (t ≡ 7 → ⊥) → t < 8 → r ≡ inverse (decode f .link t) b
+  sources-kept : (b t : ℕ) (r : Set) → NewEvent (contents f) b → (t ≡ 6 → ⊥) → (t ≡ 0 → ⊥) → (t ≡ 7 → ⊥) → t < 8 → r ≡ inverse (decode f .link t) b
       → r ≡ inverse (newLink (contents f) t) b
   unfolding inverse newLink contents
   sources-kept b t r n p q u h e =
@@ -173,28 +178,48 @@ count-row s b t row h e =
     ∙ ap (λ (x : ℕ). linksBefore (translated s) k + x)
     (count-same 64 (λ a. isLink (translated s) (k + a)) row (λ a g. link-number (translated s) t a b h g ∙ sym (ap (λ (r : Set). r a) e)))
 
+-- The rows of sources, by type.
+pub rows-into : (f : List ℕ) → Source f → (b : ℕ) (g : Rel) (h : List (List ℕ)) (z x y : List ℕ) → NewEvent (contents f) b → SourcesInto f b h
+    → g ≡ ctrlInto (contents f) → bit z ≡ empty → bit x ≡ g b → bit y ≡ empty → RowsInto (contents f) b (set (set (set h 0 z) 6 x) 7 y)
+rows-into f s b g h z x y n into p pz px py = record { row = λ t k. go t k (ℕ-discrete t 7) (ℕ-discrete t 6) (ℕ-discrete t 0) }
+  where
+    long : length (set h 0 z) ≡ 8
+    long = length-set h 0 z ∙ into .long
+
+    long′ : length (set (set h 0 z) 6 x) ≡ 8
+    long′ = length-set (set h 0 z) 6 x ∙ long
+
+    go : (t : ℕ) → t < 8 → Dec (t ≡ 7) → Dec (t ≡ 6) → Dec (t ≡ 0) → bit (getD (set (set (set h 0 z) 6 x) 7 y) t []) ≡ inverse (newLink (contents f) t) b
+    go t k (yes e) u v =
+        sources-none f s b t _ (inr e) (ap (λ (i : ℕ). bit (getD (set (set (set h 0 z) 6 x) 7 y) i [])) e ∙ ap bit (getD-set-same (set (set h 0 z) 6 x) 7 y [] (omega (arith, long′))) ∙ py)
+    go t k (no d) (yes e) v =
+        sources-ctrl f s b t g _ n e p (ap bit (getD-set-other (set (set h 0 z) 6 x) 7 t y [] d) ∙ ap (λ (i : ℕ). bit (getD (set (set h 0 z) 6 x) i [])) e ∙ ap bit (getD-set-same (set h 0 z) 6 x [] (omega (arith, long))) ∙ px)
+    go t k (no d) (no d′) (yes e) =
+        sources-none f s b t _ (inl e) (ap bit (getD-set-other (set (set h 0 z) 6 x) 7 t y [] d ∙ getD-set-other (set h 0 z) 6 t x [] d′) ∙ ap (λ (i : ℕ). bit (getD (set h 0 z) i [])) e ∙ ap bit (getD-set-same h 0 z [] (omega (arith, into .long))) ∙ pz)
+    go t k (no d) (no d′) (no d″) =
+        sources-kept f s b t _ n d′ d″ d k (ap bit (getD-set-other (set (set h 0 z) 6 x) 7 t y [] d ∙ getD-set-other (set h 0 z) 6 t x [] d′ ∙ getD-set-other h 0 t z [] d″) ∙ into .row t k)
+
 -- The links into smaller events and, of those into b, of types below t, are counted.
-pub record LinksCounted (f : List ℕ) (g : Rel) (b t m : ℕ) : Type 0 where
-  pub ready : Ready f g
-  pub event : NewEvent (contents f) b
+pub record LinksCounted (f : List ℕ) (b t m : ℕ) : Type 0 where
+  pub source : Source f
   pub same : m ≡ linksBefore (chip f) (512 * b + 64 * t)
 
-module _ (f : List ℕ) (g : Rel) (b : ℕ) where
-  pub links-start : Ready f g → NewEvent (contents f) b → (n : ℕ) → n ≡ linksBefore (chip f) (512 * b) → LinksCounted f g b 0 n
-  links-start r e n p =
+module _ (f : List ℕ) (b : ℕ) where
+  pub links-start : Source f → (n : ℕ) → n ≡ linksBefore (chip f) (512 * b) → LinksCounted f b 0 n
+  links-start r n p =
       let place : 512 * b ≡ 512 * b + 64 * 0 = omega arith in
-      record { ready = r; event = e; same = p ∙ ap (λ (x : ℕ). linksBefore (chip f) x) place }
+      record { source = r; same = p ∙ ap (λ (x : ℕ). linksBefore (chip f) x) place }
 
-  pub links-more : (t m x : ℕ) (row : Set) → LinksCounted f g b t m → t < 8 → row ≡ inverse (newLink (contents f) t) b → x ≡ count 64 row → LinksCounted f g b (t + 1) (m + x)
+  pub links-more : (t m x : ℕ) (row : Set) → LinksCounted f b t m → t < 8 → row ≡ inverse (newLink (contents f) t) b → x ≡ count 64 row → LinksCounted f b (t + 1) (m + x)
   links-more t m x row w h e p =
-      record { ready = w .ready; event = w .event; same = ap₂ _+_ (w .same) p ∙ sym (count-row (contents f) b t row h e) }
+      record { source = w .source; same = ap₂ _+_ (w .same) p ∙ sym (count-row (contents f) b t row h e) }
 
   -- They are few.
-  pub links-few : (t m : ℕ) → LinksCounted f g b t m → t ≤ 8 → m ≤ 232
+  pub links-few : (t m : ℕ) → LinksCounted f b t m → t ≤ 8 → m ≤ 232
   links-few t m w h =
-      omega (arith, w .same, count-mono (512 * b + 64 * t) (512 * suc b) (isLink (chip f)) (omega arith), most-links f (w .ready .source) b)
+      omega (arith, w .same, count-mono (512 * b + 64 * t) (512 * suc b) (isLink (chip f)) (omega arith), most-links f (w .source) b)
 
-  pub links-all : (t m : ℕ) → LinksCounted f g b t m → t ≡ 8 → (m ≡ linksUpTo (chip f) b) × (m ≤ 232)
+  pub links-all : (t m : ℕ) → LinksCounted f b t m → t ≡ 8 → (m ≡ linksUpTo (chip f) b) × (m ≤ 232)
   links-all t m w e =
       let place : 512 * b + 64 * t ≡ 512 * suc b = omega arith in
       (w .same ∙ ap (λ (x : ℕ). linksBefore (chip f) x) place, links-few t m w (omega arith))

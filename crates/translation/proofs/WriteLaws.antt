@@ -1,15 +1,16 @@
 -- Laws of the writers: the header, and records written one after the other. Assumes nothing.
-use mathlib.Core.Path.{_≡_, refl, sym, ap, ap₂, _∙_}
+use mathlib.Core.Path.{_≡_, refl, sym, ap, ap₂, subst, _∙_}
 use mathlib.Core.Bool.{true, false}
 use mathlib.Core.List.{List, [], _∷_, _++_}
-use Prim.Native.Nat.{ℕ, suc, _+_, _-_, _*_, _/_, _%_, _<_, _≤_}
+use Prim.Native.Nat.{ℕ, zero, suc, _+_, _-_, _*_, _/_, _%_, _<_, _≤_}
 use native.Mathlib.Numerals.{add-one}
 use native.Mathlib.Nat.{add-assoc}
 use native.Mathlib.Omega.{arith}
 use borrow.Author.Tests.{le-leb}
 use lib.Dec.{leb}
 use lib.ListN.{length, getD}
-use Rattle.relation.specs.Rel.{Set, Rel, inverse, count}
+use Rattle.relation.specs.Rel.{Set, Rel, inverse, least, count, Next}
+use Rattle.relation.proofs.SetLaws.{Least, least-is}
 use Rattle.recording.specs.Layout.{eventByte}
 use Rattle.recording.specs.Chains.{startOf}
 use Rattle.translation.specs.Contents.{Contents, contents}
@@ -92,7 +93,7 @@ unfolding rowRecord
 row-size row t last n k = refl
 
 module _ (part₀ : List ℕ) (row : Set) (t last n : ℕ) where
-  pub row-start : t < 8 → last < 256 → n < 256 → 4 * (n + count 64 row) ≤ length part₀ → RowWritten part₀ row t last n 0 n part₀
+  row-start : t < 8 → last < 256 → n < 256 → 4 * (n + count 64 row) ≤ length part₀ → RowWritten part₀ row t last n 0 n part₀
   unfolding records count
   row-start h g k r = record { type = h; last-small = g; first-small = k; room = r; number = omega arith; long = refl; done = placed-nil part₀ (4 * n) }
 
@@ -105,7 +106,7 @@ module _ (part₀ : List ℕ) (row : Set) (t last n : ℕ) where
       let c = count-lt a 64 row h e in
       (omega (arith, w .number, w .room, w .long), omega (arith, w .number, w .first-small, count-le 64 row))
 
-  pub row-yes : (a m : ℕ) (part bytes part′ : List ℕ) (x : ℕ) → RowWritten part₀ row t last n a m part → a < 64 → row a ≡ true → x ≡ chained last (m + 1)
+  row-yes : (a m : ℕ) (part bytes part′ : List ℕ) (x : ℕ) → RowWritten part₀ row t last n a m part → a < 64 → row a ≡ true → x ≡ chained last (m + 1)
       → bytes ≡ (x ∷ t ∷ a ∷ 0 ∷ []) → part′ ≡ placed part (4 * m) bytes → RowWritten part₀ row t last n (a + 1) (m + 1) part′
   unfolding rowRecord
   row-yes a m part bytes part′ x w h e p q r =
@@ -129,7 +130,7 @@ module _ (part₀ : List ℕ) (row : Set) (t last n : ℕ) where
         done = done;
       }
 
-  pub row-no : (a m : ℕ) (part : List ℕ) → RowWritten part₀ row t last n a m part → row a ≡ false → RowWritten part₀ row t last n (a + 1) m part
+  row-no : (a m : ℕ) (part : List ℕ) → RowWritten part₀ row t last n a m part → row a ≡ false → RowWritten part₀ row t last n (a + 1) m part
   row-no a m part w e =
       record {
         type = w .type;
@@ -139,6 +140,45 @@ module _ (part₀ : List ℕ) (row : Set) (t last n : ℕ) where
         number = w .number ∙ ap (λ (y : ℕ). n + y) (sym (ap (λ (y : ℕ). count y row) (add-one a) ∙ count-no a row e));
         long = w .long;
         done = w .done ∙ ap (placed part₀ (4 * n)) (sym (ap (records (rowRecord t last n row) row) (add-one a) ∙ records-no (rowRecord t last n row) row a e));
+      }
+
+  row-skip : (a d m : ℕ) (part : List ℕ) → RowWritten part₀ row t last n a m part → ((j : ℕ) → a ≤ j → j < a + d → row j ≡ false)
+      → RowWritten part₀ row t last n (a + d) m part
+  row-skip a zero m part w f = subst (λ (k : ℕ). RowWritten part₀ row t last n k m part) (same a) w
+    where
+      same : (a : ℕ) → a ≡ a + 0
+      same a = omega arith
+  row-skip a (suc d) m part w f =
+      subst (λ (k : ℕ). RowWritten part₀ row t last n k m part) (same a d)
+      (row-no (a + d) m part (row-skip a d m part w (λ j g h. f j g (omega arith))) (f (a + d) (omega arith) (omega arith)))
+    where
+      same : (a d : ℕ) → a + d + 1 ≡ a + suc d
+      same a d = omega arith
+
+  row-to : (a k m : ℕ) (part : List ℕ) → RowWritten part₀ row t last n a m part → a ≤ k → ((j : ℕ) → a ≤ j → j < k → row j ≡ false)
+      → RowWritten part₀ row t last n k m part
+  row-to a k m part w h f =
+      let same : a + (k - a) ≡ k = omega arith in
+      subst (λ (x : ℕ). RowWritten part₀ row t last n x m part) same (row-skip a (k - a) m part w (λ j g l. f j g (omega arith)))
+
+  -- Where the writer stands: at a source, or behind all.
+  pub record RowAt (a m : ℕ) (part : List ℕ) : Type 0 where
+    pub high : a ≤ 64
+    pub member : a < 64 → row a ≡ true
+    pub written : RowWritten part₀ row t last n a m part
+
+  pub row-first : t < 8 → last < 256 → n < 256 → 4 * (n + count 64 row) ≤ length part₀ → (a : ℕ) → a ≡ least 64 row → RowAt a n part₀
+  row-first h g k r a e =
+      let l : Least 64 row a = subst (Least 64 row) (sym e) (least-is 64 row) in
+      record { high = l .bound; member = l .member; written = row-to 0 a n part₀ (row-start h g k r) (omega arith) (λ j u v. l .smaller j v) }
+
+  pub row-next : (a m : ℕ) (part bytes part′ : List ℕ) (x k : ℕ) → RowAt a m part → a < 64 → x ≡ chained last (m + 1)
+      → bytes ≡ (x ∷ t ∷ a ∷ 0 ∷ []) → part′ ≡ placed part (4 * m) bytes → Next row (a + 1) k → RowAt k (m + 1) part′
+  row-next a m part bytes part′ x k w h p q r next =
+      record {
+        high = next .high;
+        member = next .member;
+        written = row-to (a + 1) k (m + 1) part′ (row-yes a m part bytes part′ x (w .written) h (w .member h) p q r) (next .low) (next .before);
       }
 
   pub row-all : (a m : ℕ) (part : List ℕ) → RowWritten part₀ row t last n a m part → a ≡ 64
@@ -190,33 +230,33 @@ stretch-length c k d =
     omega (arith, records-length 4 (λ i. linkRecord c (k + i)) (λ i. isLink c (k + i)) (λ i. link-size c (k + i)) d, count-add k d (isLink c))
 
 -- The links into b of types below t are written.
-pub record IntoWritten (f : List ℕ) (g : Rel) (b n last : ℕ) (part₀ : List ℕ) (t m : ℕ) (part : List ℕ) : Type 0 where
-  pub counted : LinksCounted f g b t m
+pub record IntoWritten (f : List ℕ) (b n last : ℕ) (part₀ : List ℕ) (t m : ℕ) (part : List ℕ) : Type 0 where
+  pub counted : LinksCounted f b t m
   pub first : n ≡ linksBefore (chip f) (512 * b)
   pub last-is : last ≡ linksUpTo (chip f) b
   pub room : 4 * linksUpTo (chip f) b ≤ length part₀
   pub long : length part ≡ length part₀
   pub done : part ≡ placed part₀ (4 * n) (linkStretch (chip f) (512 * b) (64 * t))
 
-module _ (f : List ℕ) (g : Rel) (b n last : ℕ) (part₀ : List ℕ) where
-  pub into-none : Ready f g → NewEvent (contents f) b → n ≡ linksBefore (chip f) (512 * b)
-      → 4 * linksUpTo (chip f) b ≤ length part₀ → last ≡ linksUpTo (chip f) b → IntoWritten f g b n last part₀ 0 n part₀
+module _ (f : List ℕ) (b n last : ℕ) (part₀ : List ℕ) where
+  pub into-none : Source f → n ≡ linksBefore (chip f) (512 * b)
+      → 4 * linksUpTo (chip f) b ≤ length part₀ → last ≡ linksUpTo (chip f) b → IntoWritten f b n last part₀ 0 n part₀
   unfolding linkStretch records
-  into-none y e p r q = record { counted = links-start f g b y e n p; first = p; last-is = q; room = r; long = refl; done = placed-nil part₀ (4 * n) }
+  into-none y p r q = record { counted = links-start f b y n p; first = p; last-is = q; room = r; long = refl; done = placed-nil part₀ (4 * n) }
 
   -- What one row more asks for.
-  pub into-room : (t m : ℕ) (part : List ℕ) (row : Set) → IntoWritten f g b n last part₀ t m part → t < 8 → row ≡ inverse (newLink (contents f) t) b
+  pub into-room : (t m : ℕ) (part : List ℕ) (row : Set) → IntoWritten f b n last part₀ t m part → t < 8 → row ≡ inverse (newLink (contents f) t) b
       → (last < 256) × (m < 256) × (4 * (m + count 64 row) ≤ length part)
   into-room t m part row w h e =
       let c = chip f in
-      let s = w .counted .ready .source in
+      let s = w .counted .source in
       let all : linksBefore c (512 * b + 64 * (t + 1)) ≤ linksUpTo c b = count-mono (512 * b + 64 * (t + 1)) (512 * suc b) (isLink c) (omega arith) in
       let most = most-links f s b in
       let more = count-row (contents f) b t row h e in
       (omega (arith, w .last-is), omega (arith, w .counted .same), omega (arith, w .counted .same, w .room, w .long))
 
-  pub into-more : (t m x : ℕ) (part : List ℕ) (row : Set) (part′ : List ℕ) → IntoWritten f g b n last part₀ t m part → t < 8 → row ≡ inverse (newLink (contents f) t) b
-      → x ≡ m + count 64 row → part′ ≡ placed part (4 * m) (records (rowRecord t last m row) row 64) → IntoWritten f g b n last part₀ (t + 1) x part′
+  pub into-more : (t m x : ℕ) (part : List ℕ) (row : Set) (part′ : List ℕ) → IntoWritten f b n last part₀ t m part → t < 8 → row ≡ inverse (newLink (contents f) t) b
+      → x ≡ m + count 64 row → part′ ≡ placed part (4 * m) (records (rowRecord t last m row) row 64) → IntoWritten f b n last part₀ (t + 1) x part′
   into-more t m x part row part′ w h e p q =
       let c = chip f in
       let old = linkStretch c (512 * b) (64 * t) in
@@ -227,8 +267,8 @@ module _ (f : List ℕ) (g : Rel) (b n last : ℕ) (part₀ : List ℕ) where
       ∙ placed-placed part₀ (4 * n) old (records (rowRecord t last m row) row 64) (4 * m) (omega (arith, w .room, w .first)) (omega (arith, w .first, w .counted .same))
       ∙ ap (placed part₀ (4 * n)) (stretch-row (contents f) b t row h e last m (w .last-is) (w .counted .same)) in
       record {
-        counted = (let k = links-more f g b t m (count 64 row) row (w .counted) h e refl in
-            record { ready = k .ready; event = k .event; same = p ∙ k .same });
+        counted = (let k = links-more f b t m (count 64 row) row (w .counted) h e refl in
+            record { source = k .source; same = p ∙ k .same });
         first = w .first;
         last-is = w .last-is;
         room = w .room;
@@ -236,11 +276,11 @@ module _ (f : List ℕ) (g : Rel) (b n last : ℕ) (part₀ : List ℕ) where
         done = done;
       }
 
-  pub into-all : (t m : ℕ) (part : List ℕ) → IntoWritten f g b n last part₀ t m part → t ≡ 8
+  pub into-all : (t m : ℕ) (part : List ℕ) → IntoWritten f b n last part₀ t m part → t ≡ 8
       → (m ≡ linksUpTo (chip f) b) × (part ≡ placed part₀ (4 * n) (linkStretch (chip f) (512 * b) 512))
   into-all t m part w e =
       let place : 64 * t ≡ 512 = omega arith in
-      (links-all f g b t m (w .counted) e .0, w .done ∙ ap (λ (x : ℕ). placed part₀ (4 * n) (linkStretch (chip f) (512 * b) x)) place)
+      (links-all f b t m (w .counted) e .0, w .done ∙ ap (λ (x : ℕ). placed part₀ (4 * n) (linkStretch (chip f) (512 * b) x)) place)
 
 -- The links into events below b are written.
 pub record LinksWritten (f : List ℕ) (g : Rel) (n : ℕ) (part₀ : List ℕ) (b m : ℕ) (part : List ℕ) : Type 0 where

@@ -2,14 +2,15 @@
 use mathlib.Core.Path.{_≡_}
 use mathlib.Core.Bool.{Bool, true, false, _&&_}
 use mathlib.Core.List.{List, [], _∷_, _++_}
-use Prim.Native.Nat.{ℕ, suc, _+_, _≤_}
+use Prim.Native.Nat.{ℕ, suc, _+_, _<_, _≤_}
 use lib.Dec.{leb}
-use lib.ListN.{length, take, drop}
+use lib.ListN.{length, getD, take, drop}
 use Rattle.relation.specs.Rel.{Set, Rel, either, inverse, count}
+use Rattle.relation.specs.Bits.{bit}
 use Rattle.recording.specs.Layout.{kind}
 use Rattle.recording.specs.Causes.{refusal}
 use Rattle.translation.specs.Contents.{Contents, contents}
-use Rattle.translation.specs.Translate.{newEvents, follows, fromExclusive, fromCasdep}
+use Rattle.translation.specs.Translate.{newEvents, follows, fromExclusive, fromCasdep, newLink}
 use Rattle.translation.specs.Encode.{chained, records, isLink, linkRecord}
 
 -- A source file that loads.
@@ -35,6 +36,10 @@ module _ (s : Contents) where
   -- The ctrl links of the translation, from target to source.
   unfoldable pub ctrlInto : Rel
   ctrlInto = inverse (either (s .link 6) (either (fromExclusive s) (fromCasdep s)))
+
+  -- The rows hold the sources of the translation's links into b, by type.
+  pub record RowsInto (b : ℕ) (rows : List (List ℕ)) : Type 0 where
+    pub row : (t : ℕ) → t < 8 → bit (getD rows t []) ≡ inverse (newLink s t) b
 
 -- A source file that loads, with a grid of the translation's ctrl links.
 pub record Ready (f : List ℕ) (ctrl : Rel) : Type 0 where

@@ -7,14 +7,13 @@ use relation::grid;
 use relation::row;
 ghost use mathlib.Core.Path.{_≡_};
 ghost use Prim.Native.Nat.{_*_, _≤_, _<_};
-ghost use Rattle.relation.specs.Rel.{inverse};
 ghost use Rattle.relation.specs.Bits.{bit, edge};
 ghost use Rattle.recording.specs.Layout.{events};
 ghost use Rattle.translation.specs.Contents.{contents};
 ghost use Rattle.translation.specs.Translate.{newEvents, controlled, newLink};
 ghost use Rattle.translation.specs.Encode.{linksBefore, linksUpTo};
 ghost use Rattle.translation.specs.Answer.{chip};
-ghost use Rattle.translation.specs.Parts.{Source, NewEvent, Ready, targets, ctrlInto};
+ghost use Rattle.translation.specs.Parts.{Source, NewEvent, Ready, RowsInto, targets, ctrlInto};
 
 // The event that the ctrl link from the exclusive read r goes to: the one directly after r, or after its write where r has both rmw and
 // data to it.
@@ -71,21 +70,16 @@ pub fn ctrl(file: &[u8]) -> [[u8; 8]; 64]
     grid::inverse(grid::or(kept, grid::or(target_rows(file, true), casdep)))
 }
 
-// The sources of the links of type t into b.
-pub fn sources(file: &[u8], ctrl: [[u8; 8]; 64], b: usize, t: usize) -> [u8; 8]
-    requires { ⌜ Ready (now file) (edge ctrl) × NewEvent (contents (now file)) b × (t < 8) ⌝ }
-    ensures { λ r. ⌜ bit r ≡ inverse (newLink (contents (now (file .entry))) t) b ⌝ }
+// The sources of the links into b, with a row for each type: those of the source file but for types 0, 6 and 7.
+pub fn rows(file: &[u8], ctrl: [[u8; 8]; 64], b: usize) -> [[u8; 8]; 8]
+    requires { ⌜ Ready (now file) (edge ctrl) × NewEvent (contents (now file)) b ⌝ }
+    ensures { λ r. ⌜ RowsInto (contents (now (file .entry))) b r ⌝ }
 {
-    if t == 6 {
-        return grid::row_of(ctrl, b);
-    }
-    if t == 0 {
-        return row::none();
-    }
-    if t == 7 {
-        return row::none();
-    }
-    graph::sources_of(file, b, t)
+    let mut h = graph::sources_by_type(file, b);
+    h[0] = row::none();
+    h[6] = grid::row_of(ctrl, b);
+    h[7] = row::none();
+    h
 }
 
 // How many links there are into events 1 to b, where there are n into smaller ones.
@@ -93,10 +87,11 @@ pub fn links_up_to(file: &[u8], ctrl: [[u8; 8]; 64], b: usize, n: usize) -> usiz
     requires { ⌜ Ready (now file) (edge ctrl) × NewEvent (contents (now file)) b × (n ≡ linksBefore (chip (now file)) (512 * b)) ⌝ }
     ensures { λ r. ⌜ (r ≡ linksUpTo (chip (now (file .entry))) b) × (r ≤ 232) ⌝ }
 {
+    let rows = rows(file, ctrl, b);
     let mut m = n;
     let mut t: usize = 0;
     while t < 8 {
-        m += row::size(sources(file, ctrl, b, t));
+        m += row::size(rows[t]);
         t += 1;
     }
     m

@@ -72,14 +72,12 @@ pub fn write_row(part: &mut [u8], row: [u8; 8], t: usize, last: usize, n: usize)
     ensures { λ r. ⌜ (r ≡ n + count 64 (bit row)) × (now (part .exit) ≡ placed (now (part .entry)) (4 * n) (records (rowRecord t last n (bit row)) (bit row) 64)) ⌝ }
 {
     let mut m = n;
-    let mut a: usize = 0;
+    let mut a = row::first(row);
     while a < 64 {
-        if row::has(row, a) {
-            let bytes = [output::chained(last, m + 1) as u8, t as u8, a as u8, 0];
-            output::put(part, 4 * m, &bytes);
-            m += 1;
-        }
-        a += 1;
+        let bytes = [output::chained(last, m + 1) as u8, t as u8, a as u8, 0];
+        output::put(part, 4 * m, &bytes);
+        m += 1;
+        a = row::next(row, a + 1);
     }
     m
 }
@@ -90,10 +88,11 @@ pub fn write_into(part: &mut [u8], file: &[u8], ctrl: [[u8; 8]; 64], b: usize, n
     ensures { λ r. ⌜ (r ≡ linksUpTo (chip (now (file .entry))) b) × (now (part .exit) ≡ placed (now (part .entry)) (4 * n) (linkStretch (chip (now (file .entry))) (512 * b) 512)) ⌝ }
 {
     let last = link::links_up_to(file, ctrl, b, n);
+    let rows = link::rows(file, ctrl, b);
     let mut m = n;
     let mut t: usize = 0;
     while t < 8 {
-        let z = write_row(part, link::sources(file, ctrl, b, t), t, last, m);
+        let z = write_row(part, rows[t], t, last, m);
         m = z;
         t += 1;
     }

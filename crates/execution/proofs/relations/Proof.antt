@@ -1,64 +1,106 @@
 -- `relations` meets its contract, place by place. Assumes nothing.
+use native.Mathlib.Omega.{arith}
 use Rattle.models.specs.Graph.{base}
 use Rattle.recording.proofs.Loaded.{loaded-sized, loaded-readable, loaded-legal}
+use Rattle.execution.proofs.BaseOf.{links-of}
 use borrow.Author.Needs.{needs}
 use Rattle.execution.proofs.relations.Statement.{statement}
 use Rattle.execution.proofs.relations.Tie as tie
 
-program-order-requires : tie.Need-program-order-requires
-program-order-requires c κs = search (needs, loaded-sized, loaded-readable, loaded-legal)
-
 same-location-requires : tie.Need-same-location-requires
-same-location-requires c κs = search (needs, loaded-sized, loaded-readable, loaded-legal)
+same-location-requires c κs = search (needs, loaded-sized, loaded-legal)
 
-links-requires : tie.Need-links-requires
-links-requires c κs = search (needs, loaded-sized, loaded-readable, loaded-legal)
+program-order-requires : tie.Need-program-order-requires
+program-order-requires c κs = search (needs, loaded-sized)
+
+rows-by-type-requires : tie.Need-rows-by-type-requires
+rows-by-type-requires c κs = search (needs, loaded-readable)
+
+array-copy-out-inverse : tie.Need-array-copy-out-inverse
+array-copy-out-inverse c = search needs
+
+inverse-requires : tie.Need-inverse-requires
+inverse-requires c κs = search needs
+
+array-copy-out-inverse-2 : tie.Need-array-copy-out-inverse-2
+array-copy-out-inverse-2 c = search needs
+
+inverse-requires-2 : tie.Need-inverse-requires-2
+inverse-requires-2 c κs = search needs
 
 coherence-requires : tie.Need-coherence-requires
-coherence-requires c κs = search (needs, loaded-sized, loaded-readable, loaded-legal)
+coherence-requires c κs = (loaded-sized _ (c .before .before .before .before .before .before .before .before .pre), links-of _ _ (c .before .before .before .before .rows-by-type .ensures) 2 (omega arith) (omega arith) _ (c .inverse2 .ensures), c .before .before .before .before .before .before .same-location .ensures)
 
-links-requires-2 : tie.Need-links-requires-2
-links-requires-2 c κs = search (needs, loaded-sized, loaded-readable, loaded-legal)
+array-copy-out-inverse-3 : tie.Need-array-copy-out-inverse-3
+array-copy-out-inverse-3 c = search needs
 
-links-requires-3 : tie.Need-links-requires-3
-links-requires-3 c κs = search (needs, loaded-sized, loaded-readable, loaded-legal)
+inverse-requires-3 : tie.Need-inverse-requires-3
+inverse-requires-3 c κs = search needs
 
-links-requires-4 : tie.Need-links-requires-4
-links-requires-4 c κs = search (needs, loaded-sized, loaded-readable, loaded-legal)
+array-copy-out-inverse-4 : tie.Need-array-copy-out-inverse-4
+array-copy-out-inverse-4 c = search needs
+
+inverse-requires-4 : tie.Need-inverse-requires-4
+inverse-requires-4 c κs = search needs
+
+array-copy-out-inverse-5 : tie.Need-array-copy-out-inverse-5
+array-copy-out-inverse-5 c = search needs
+
+inverse-requires-5 : tie.Need-inverse-requires-5
+inverse-requires-5 c κs = search needs
+
+array-copy-out-inverse-6 : tie.Need-array-copy-out-inverse-6
+array-copy-out-inverse-6 c = search needs
+
+inverse-requires-6 : tie.Need-inverse-requires-6
+inverse-requires-6 c κs = search needs
 
 control-requires : tie.Need-control-requires
-control-requires c κs = search needs
+control-requires c κs = (c .before .before .before .before .before .before .before .before .before .before .before .before .before .before .before .before .before .pre, c .before .before .before .before .before .before .before .before .before .before .before .before .before .before .program-order .ensures, links-of _ _ (c .before .before .before .before .before .before .before .before .before .before .before .before .before .rows-by-type .ensures) 6 (omega arith) (omega arith) _ (c .inverse6 .ensures))
 
-links-requires-5 : tie.Need-links-requires-5
-links-requires-5 c κs = search (needs, loaded-sized, loaded-readable, loaded-legal)
+array-copy-out-inverse-7 : tie.Need-array-copy-out-inverse-7
+array-copy-out-inverse-7 c = search needs
+
+inverse-requires-7 : tie.Need-inverse-requires-7
+inverse-requires-7 c κs = search needs
 
 returns : tie.Need-returns
 unfolding base
 returns c =
-    let made = c .before .before .before .before .before .before .before in
+    let rows = c .before .before .before .before .before .before .before .before .before .before .before .before .before .before .before .before .rows-by-type .ensures in
     record {
-      loc = made .same-location .ensures;
-      po = made .before .program-order .ensures;
-      rf = c .before .before .before .before .before .before .links .ensures;
-      co = c .before .before .before .before .before .coherence .ensures;
-      rmw = c .before .before .before .before .links2 .ensures;
-      «data» = c .before .before .before .links3 .ensures;
-      addr = c .before .before .links4 .ensures;
-      ctrl = c .before .control .ensures;
-      casdep = c .links5 .ensures;
+      loc = c .before .before .before .before .before .before .before .before .before .before .before .before .before .before .before .before .before .before .same-location .ensures;
+      po = c .before .before .before .before .before .before .before .before .before .before .before .before .before .before .before .before .before .program-order .ensures;
+      rf = links-of _ _ rows 1 (omega arith) (omega arith) _ (c .before .before .before .before .before .before .before .before .before .before .before .before .before .before .inverse .ensures);
+      co = c .before .before .before .before .before .before .before .before .before .before .before .coherence .ensures;
+      rmw = links-of _ _ rows 3 (omega arith) (omega arith) _ (c .before .before .before .before .before .before .before .before .before .inverse3 .ensures);
+      «data» = links-of _ _ rows 4 (omega arith) (omega arith) _ (c .before .before .before .before .before .before .before .inverse4 .ensures);
+      addr = links-of _ _ rows 5 (omega arith) (omega arith) _ (c .before .before .before .before .before .inverse5 .ensures);
+      ctrl = c .before .before .control .ensures;
+      casdep = links-of _ _ rows 7 (omega arith) (omega arith) _ (c .inverse7 .ensures);
     }
 
 pub relations-spec : {M : Type 1} → statement M
 relations-spec =
     tie.close
     (tie.spec
-    program-order-requires
     same-location-requires
-    links-requires
+    program-order-requires
+    rows-by-type-requires
+    array-copy-out-inverse
+    inverse-requires
+    array-copy-out-inverse-2
+    inverse-requires-2
     coherence-requires
-    links-requires-2
-    links-requires-3
-    links-requires-4
+    array-copy-out-inverse-3
+    inverse-requires-3
+    array-copy-out-inverse-4
+    inverse-requires-4
+    array-copy-out-inverse-5
+    inverse-requires-5
+    array-copy-out-inverse-6
+    inverse-requires-6
     control-requires
-    links-requires-5
+    array-copy-out-inverse-7
+    inverse-requires-7
     returns)

@@ -20,12 +20,6 @@ members-requires-3 c κs = search needs
 product-requires : tie.Need-product-requires
 product-requires c κs = search needs
 
-links-requires : tie.Need-links-requires
-links-requires c κs = search needs
-
-same-location-requires : tie.Need-same-location-requires
-same-location-requires c κs = search needs
-
 and-requires-2 : tie.Need-and-requires-2
 and-requires-2 c κs = search needs
 
@@ -34,11 +28,12 @@ or-requires c κs = search needs
 
 returns : tie.Need-returns
 unfolding membersOf
-returns c =
-    let sets = c .before .before .before .before .before .before .before in
-    co-is _ _ _ _ _ _ _ _ _ _ (sets .before .members .ensures) (sets .members2 .ensures) (c .before .before .before .before .before .before .and .ensures)
-    (c .before .before .before .before .before .members3 .ensures) (c .before .before .before .before .product .ensures)
-    (c .before .before .before .links .ensures) (c .before .before .same-location .ensures) (c .before .and2 .ensures) (c .or .ensures)
+returns c = 
+    let sets = c .before .before .before .before .before in
+    let pre = sets .before .before .before .pre in
+    co-is _ _ _ _ _ _ _ _ _ _ (sets .before .members .ensures) (sets .members2 .ensures) (c .before .before .before .before .and .ensures)
+    (c .before .before .before .members3 .ensures) (c .before .before .product .ensures)
+    (pre .1) (pre .2) (c .before .and2 .ensures) (c .or .ensures)
 
 pub co-steps-spec : {M : Type 1} → statement M
 co-steps-spec =
@@ -49,8 +44,6 @@ co-steps-spec =
     and-requires
     members-requires-3
     product-requires
-    links-requires
-    same-location-requires
     and-requires-2
     or-requires
     returns)

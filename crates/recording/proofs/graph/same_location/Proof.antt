@@ -3,26 +3,33 @@ use mathlib.Core.Path.{_≡_, ap, _∙_}
 use mathlib.Core.Bool.{true}
 use Prim.Native.Nat.{ℕ, _-_, _≤_}
 use Rattle.relation.specs.Bits.{edge}
-use Rattle.recording.specs.Layout.{Sized, events}
+use Rattle.recording.specs.Layout.{events, locations, Sized}
 use Rattle.recording.specs.Chains.{each}
 use Rattle.recording.specs.Causes.{eventLegal}
 use Rattle.recording.specs.Sets.{membersOf}
 use Rattle.recording.proofs.GraphLaws.{located, located-none, located-more, located-all}
+use native.Mathlib.Omega.{arith}
 use borrow.Author.Needs.{needs}
 use Rattle.recording.proofs.graph.same_location.Statement.{statement}
 use Rattle.recording.proofs.graph.same_location.Tie as tie
 
 abbrev Inv-loop : tie.InvT-loop
-Inv-loop file h₀ l₀ h l = (l ≤ 8) × Sized file × (each (events file) (eventLegal file) ≡ true) × (edge h ≡ located file l)
+Inv-loop file n h₀ l₀ h l = (l ≤ n) × Sized file × (each (events file) (eventLegal file) ≡ true) × (edge h ≡ located file l) × (n ≡ locations file) × (n ≤ 8)
 
 abbrev μ-loop : tie.MeasureT-loop
-μ-loop file h₀ l₀ h l = 8 - l
+μ-loop file n h₀ l₀ h l = n - l
+
+locations-requires : tie.Need-locations-requires Inv-loop μ-loop
+locations-requires c κs = search needs
 
 empty-requires : tie.Need-empty-requires Inv-loop μ-loop
 empty-requires c κs = search needs
 
 loop-holds : tie.Need-loop-holds Inv-loop μ-loop
-loop-holds c = (search needs, c .before .before .pre .0, c .before .before .pre .1, c .empty .ensures ∙ located-none _)
+loop-holds c = 
+    let pre = c .before .before .before .pre in
+    let n = c .before .locations .ensures in
+    (search needs, pre .0, pre .1, c .empty .ensures ∙ located-none _, n .0, n .1)
 
 members-requires : tie.Need-members-requires Inv-loop μ-loop
 members-requires c κs = c .before .loop .inv .1
@@ -41,14 +48,14 @@ loop-less c = search needs
 
 loop-again : tie.Need-loop-again Inv-loop μ-loop
 unfolding membersOf
-loop-again c =
+loop-again c = 
     let inv = c .before .before .before .before .loop .inv in
-    (search needs, inv .1, inv .2, located-more _ _ _ _ _ _ (inv .3) (c .before .before .members .ensures) (c .before .product .ensures) (c .or .ensures))
+    (search needs, inv .1, inv .2, located-more _ _ _ _ _ _ (inv .3) (c .before .before .members .ensures) (c .before .product .ensures) (c .or .ensures), inv .4, inv .5)
 
 returns : tie.Need-returns Inv-loop μ-loop
-returns c =
+returns c = 
     let inv = c .before .loop .inv in
-    located-all _ (inv .1) (inv .2) _ _ (c .loop-test .left) (inv .3)
+    located-all _ (inv .1) (inv .2) _ _ (omega (arith, inv .4, c .loop-test .left)) (inv .3)
 
 pub same-location-spec : {M : Type 1} → statement M
 same-location-spec =
@@ -56,6 +63,7 @@ same-location-spec =
     (tie.spec
     Inv-loop
     μ-loop
+    locations-requires
     empty-requires
     loop-holds
     members-requires

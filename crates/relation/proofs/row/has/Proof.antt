@@ -1,21 +1,20 @@
--- `row::has` meets its contract: the code's shift and mask pick the bit of the definition. Assumes nothing.
-use native.Mathlib.Omega.{arith}
-use Rattle.relation.proofs.ByteLaws.{bit-has, low-lt}
+-- `row::has` meets its contract: bit j of the row's number. Assumes nothing.
+use mathlib.Core.Path.{ap, sym, _∙_}
+use Prim.Native.Nat.{ℕ}
+use Rattle.relation.specs.Rel.{Set}
+use Rattle.relation.proofs.WordLaws.{on-has}
 use borrow.Author.Needs.{needs}
 use Rattle.relation.proofs.row.has.Statement.{statement}
 use Rattle.relation.proofs.row.has.Tie as tie
 
-array-read-result : tie.Need-array-read-result
-array-read-result c = search needs
-
-cast-result : tie.Need-cast-result
-cast-result c = omega (arith, low-lt (c .args .j))
+word-requires : tie.Need-word-requires
+word-requires c κs = search needs
 
 shr-result : tie.Need-shr-result
-shr-result c = low-lt (c .args .j)
+shr-result c = search needs
 
 returns : tie.Need-returns
-returns c = bit-has (c .args .t1) (c .args .j) (c .pre)
+returns c = on-has _ _ ∙ ap (λ (s : Set). s (c .before .args .j)) (sym (c .word .ensures))
 
 pub has-spec : {M : Type 1} → statement M
-has-spec = tie.close (tie.spec array-read-result cast-result shr-result returns)
+has-spec = tie.close (tie.spec word-requires shr-result returns)

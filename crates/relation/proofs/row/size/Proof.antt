@@ -1,49 +1,23 @@
--- `row::size` meets its contract, counting number by number. Assumes nothing.
-use mathlib.Core.Path.{_≡_, sym, ap, _∙_}
-use mathlib.Core.Logic.{inl, inr}
-use Prim.Native.Nat.{ℕ, _-_, _≤_}
+-- `row::size` meets its contract: the set bits of the row's number. Assumes nothing.
+use mathlib.Core.Path.{ap, sym, _∙_}
+use Prim.Native.Nat.{_<_, _^_}
 use native.Mathlib.Omega.{arith}
+use mir.Syntax.{w64}
+use mir.Val.{Fits}
 use Rattle.relation.specs.Rel.{count}
-use Rattle.relation.specs.Bits.{bit}
-use Rattle.relation.proofs.SetLaws.{count-yes, count-no}
+use Rattle.relation.proofs.WordLaws.{ones-count, ones-few}
 use borrow.Author.Needs.{needs}
 use Rattle.relation.proofs.row.size.Statement.{statement}
 use Rattle.relation.proofs.row.size.Tie as tie
 
-abbrev Inv-loop : tie.InvT-loop
-Inv-loop row n₀ j₀ n j = (j ≤ 64) × (n ≤ j) × (n ≡ count j (bit row))
+word-requires : tie.Need-word-requires
+word-requires c κs = search needs
 
-abbrev μ-loop : tie.MeasureT-loop
-μ-loop row n₀ j₀ n j = 64 - j
+cast-result : tie.Need-cast-result
+cast-result c = (let f : Fits w64 (c .word .result) = search needs in record { fits = omega (arith, ones-few (c .word .result) (f .fits)) })
 
-loop-holds : tie.Need-loop-holds Inv-loop μ-loop
-unfolding count
-loop-holds c = search needs
-
-has-requires : tie.Need-has-requires Inv-loop μ-loop
-has-requires c κs = search needs
-
-add-n : tie.Need-add-n Inv-loop μ-loop
-add-n c = search needs
-
-add-j : tie.Need-add-j Inv-loop μ-loop
-add-j c = search needs
-
-loop-less : tie.Need-loop-less Inv-loop μ-loop
-loop-less c = search needs
-
-loop-again : tie.Need-loop-again Inv-loop μ-loop
-loop-again c =
-    let test = c .before .has .ensures in
-    elim (c .if1 .came) [
-      | inl w ↦ (omega arith, omega arith, omega (arith, count-yes (c .before .before .before .loop .j) (bit (c .before .before .before .before .args .row)) (sym test ∙ w .0 .taken)))
-      | inr w ↦ (omega arith, omega arith, omega (arith, count-no (c .before .before .before .loop .j) (bit (c .before .before .before .before .args .row)) (sym test ∙ w .0 .left)))
-    ]
-
-returns : tie.Need-returns Inv-loop μ-loop
-returns c = c .before .loop .inv .2 ∙ ap (λ (k : ℕ). count k (bit (c .before .before .args .row))) (omega arith)
+returns : tie.Need-returns
+returns c = (let f : Fits w64 (c .word .result) = search needs in ones-count 64 _ (f .fits) ∙ ap (count 64) (sym (c .word .ensures)))
 
 pub size-spec : {M : Type 1} → statement M
-size-spec =
-    tie.close
-    (tie.spec Inv-loop μ-loop loop-holds has-requires add-n add-j loop-less loop-again returns)
+size-spec = tie.close (tie.spec word-requires cast-result returns)

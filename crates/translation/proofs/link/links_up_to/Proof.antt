@@ -1,32 +1,36 @@
 -- `link::links_up_to` meets its contract, type by type. Assumes nothing.
 use Prim.Native.Nat.{_-_, _≤_}
 use native.Mathlib.Omega.{arith}
-use Rattle.relation.specs.Bits.{edge}
+use Rattle.translation.specs.Contents.{contents}
+use Rattle.translation.specs.Parts.{RowsInto}
 use Rattle.translation.proofs.LinkRows.{LinksCounted, links-start, links-more, links-few, links-all}
 use borrow.Author.Needs.{needs}
 use Rattle.translation.proofs.link.links_up_to.Statement.{statement}
 use Rattle.translation.proofs.link.links_up_to.Tie as tie
 
 abbrev Inv-loop : tie.InvT-loop
-Inv-loop file ctrl b n m₀ t₀ m t = (t ≤ 8) × LinksCounted file (edge ctrl) b t m
+Inv-loop file b n rows m₀ t₀ m t = (t ≤ 8) × LinksCounted file b t m × RowsInto (contents file) b rows
 
 abbrev μ-loop : tie.MeasureT-loop
-μ-loop file ctrl b n m₀ t₀ m t = 8 - t
+μ-loop file b n rows m₀ t₀ m t = 8 - t
+
+rows-requires : tie.Need-rows-requires Inv-loop μ-loop
+rows-requires c κs = (c .before .pre .0, c .before .pre .1)
 
 loop-holds : tie.Need-loop-holds Inv-loop μ-loop
-loop-holds c = (let start = c .before in (search needs, links-start _ _ _ (start .pre .0) (start .pre .1) _ (start .pre .2)))
+loop-holds c = (let pre = c .before .before .pre in (search needs, links-start _ _ (pre .0 .source) _ (pre .2), c .rows .ensures))
 
-sources-requires : tie.Need-sources-requires Inv-loop μ-loop
-sources-requires c κs = (let inv = c .before .loop .inv .1 in (inv .ready, inv .event, search needs))
+mul-size : tie.Need-mul-size Inv-loop μ-loop
+mul-size c = search needs
+
+array-copy-out-size : tie.Need-array-copy-out-size Inv-loop μ-loop
+array-copy-out-size c = search needs
 
 size-requires : tie.Need-size-requires Inv-loop μ-loop
 size-requires c κs = search needs
 
 add-m : tie.Need-add-m Inv-loop μ-loop
-add-m c =
-    let turn = c .before .before in
-    let more = links-more _ _ _ _ _ _ _ (turn .before .loop .inv .1) (turn .loop-test .taken) (c .before .sources .ensures) (c .size .ensures) in
-    omega (arith, links-few _ _ _ _ _ more (omega (arith, turn .loop-test .taken)))
+add-m c = (let turn = c .before .before in let inv = turn .before .loop .inv in let more = links-more _ _ _ _ _ _ (inv .1) (turn .loop-test .taken) (inv .2 .row _ (turn .loop-test .taken)) (c .size .ensures) in omega (arith, links-few _ _ _ _ more (omega (arith, turn .loop-test .taken))))
 
 add-t : tie.Need-add-t Inv-loop μ-loop
 add-t c = search needs
@@ -35,12 +39,10 @@ loop-less : tie.Need-loop-less Inv-loop μ-loop
 loop-less c = search needs
 
 loop-again : tie.Need-loop-again Inv-loop μ-loop
-loop-again c =
-    let turn = c .before .before in
-    (search needs, links-more _ _ _ _ _ _ _ (turn .before .loop .inv .1) (turn .loop-test .taken) (c .before .sources .ensures) (c .size .ensures))
+loop-again c = (let turn = c .before .before in let inv = turn .before .loop .inv in (search needs, links-more _ _ _ _ _ _ (inv .1) (turn .loop-test .taken) (inv .2 .row _ (turn .loop-test .taken)) (c .size .ensures), inv .2))
 
 returns : tie.Need-returns Inv-loop μ-loop
-returns c = links-all _ _ _ _ _ (c .before .loop .inv .1) (omega arith)
+returns c = links-all _ _ _ _ (c .before .loop .inv .1) (omega arith)
 
 pub links-up-to-spec : {M : Type 1} → statement M
 links-up-to-spec =
@@ -48,8 +50,10 @@ links-up-to-spec =
     (tie.spec
     Inv-loop
     μ-loop
+    rows-requires
     loop-holds
-    sources-requires
+    mul-size
+    array-copy-out-size
     size-requires
     add-m
     add-t

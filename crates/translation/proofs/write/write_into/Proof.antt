@@ -1,32 +1,36 @@
 -- `write::write_into` meets its contract, type by type. Assumes nothing.
 use Prim.Native.Nat.{_-_, _≤_}
 use native.Mathlib.Omega.{arith}
-use Rattle.relation.specs.Bits.{edge}
+use Rattle.translation.specs.Contents.{contents}
+use Rattle.translation.specs.Parts.{RowsInto}
 use Rattle.translation.proofs.WriteLaws.{IntoWritten, into-none, into-room, into-more, into-all}
 use borrow.Author.Needs.{needs}
 use Rattle.translation.proofs.write.write_into.Statement.{statement}
 use Rattle.translation.proofs.write.write_into.Tie as tie
 
 abbrev Inv-loop : tie.InvT-loop
-Inv-loop part₀ file ctrl b n last m₀ t₀ part m t = (t ≤ 8) × IntoWritten file (edge ctrl) b n last part₀ t m part
+Inv-loop part₀ file b n last rows m₀ t₀ part m t = (t ≤ 8) × IntoWritten file b n last part₀ t m part × RowsInto (contents file) b rows
 
 abbrev μ-loop : tie.MeasureT-loop
-μ-loop part₀ file ctrl b n last m₀ t₀ part m t = 8 - t
+μ-loop part₀ file b n last rows m₀ t₀ part m t = 8 - t
 
 links-up-to-requires : tie.Need-links-up-to-requires Inv-loop μ-loop
 links-up-to-requires c κs = search needs
 
-loop-holds : tie.Need-loop-holds Inv-loop μ-loop
-loop-holds c = (let pre = c .before .before .before .pre in (search needs, into-none _ _ _ _ _ _ (pre .0) (pre .1) (pre .2) (pre .3) (c .links-up-to .ensures .0)))
+rows-requires : tie.Need-rows-requires Inv-loop μ-loop
+rows-requires c κs = (c .before .before .before .pre .0, c .before .before .before .pre .1)
 
-sources-requires : tie.Need-sources-requires Inv-loop μ-loop
-sources-requires c κs = (let turn = c .before in let inv = turn .before .loop .inv .1 .counted in (inv .ready, inv .event, turn .loop-test .taken))
+loop-holds : tie.Need-loop-holds Inv-loop μ-loop
+loop-holds c = (let pre = c .before .before .before .before .pre in (search needs, into-none _ _ _ _ _ (pre .0 .source) (pre .2) (pre .3) (c .before .links-up-to .ensures .0), c .rows .ensures))
+
+mul-write-row : tie.Need-mul-write-row Inv-loop μ-loop
+mul-write-row c = search needs
+
+array-copy-out-write-row : tie.Need-array-copy-out-write-row Inv-loop μ-loop
+array-copy-out-write-row c = search needs
 
 write-row-requires : tie.Need-write-row-requires Inv-loop μ-loop
-write-row-requires c κs =
-    let turn = c .before .before in
-    let room = into-room _ _ _ _ _ _ _ _ _ _ (turn .before .loop .inv .1) (turn .loop-test .taken) (c .sources .ensures) in
-    (turn .loop-test .taken, room .0, room .1, room .2)
+write-row-requires c κs = (let turn = c .before .before in let inv = turn .before .loop .inv in let room = into-room _ _ _ _ _ _ _ _ _ (inv .1) (turn .loop-test .taken) (inv .2 .row _ (turn .loop-test .taken)) in (turn .loop-test .taken, room .0, room .1, room .2))
 
 add-t : tie.Need-add-t Inv-loop μ-loop
 add-t c = search needs
@@ -36,16 +40,16 @@ loop-less c = search needs
 
 loop-again : tie.Need-loop-again Inv-loop μ-loop
 loop-again c =
-    let row = c .before .before .before in
-    let turn = row .before .before in
+    let turn = c .before .before .before .before .before in
+    let inv = turn .before .loop .inv in
     let made = c .before .before .write-row .ensures in
-    (search needs, into-more _ _ _ _ _ _ _ _ _ _ _ _ (turn .before .loop .inv .1) (turn .loop-test .taken) (row .sources .ensures) (made .0) (made .1))
+    (search needs, into-more _ _ _ _ _ _ _ _ _ _ _ (inv .1) (turn .loop-test .taken) (inv .2 .row _ (turn .loop-test .taken)) (made .0) (made .1), inv .2)
 
 same-length : tie.Need-same-length Inv-loop μ-loop
 same-length c = c .before .loop .inv .1 .long
 
 returns : tie.Need-returns Inv-loop μ-loop
-returns c = into-all _ _ _ _ _ _ _ _ _ (c .before .loop .inv .1) (omega arith)
+returns c = into-all _ _ _ _ _ _ _ _ (c .before .loop .inv .1) (omega arith)
 
 pub write-into-spec : {M : Type 1} → statement M
 write-into-spec =
@@ -54,8 +58,10 @@ write-into-spec =
     Inv-loop
     μ-loop
     links-up-to-requires
+    rows-requires
     loop-holds
-    sources-requires
+    mul-write-row
+    array-copy-out-write-row
     write-row-requires
     add-t
     loop-less

@@ -1,86 +1,69 @@
 -- `write::write_row` meets its contract, source by source. Assumes nothing.
-use mathlib.Core.Path.{refl, sym, _∙_}
-use mathlib.Core.Logic.{inl, inr}
-use Prim.Native.Nat.{_-_, _≤_}
+use mathlib.Core.Path.{refl}
+use Prim.Native.Nat.{_-_}
 use native.Mathlib.Omega.{arith}
 use Rattle.relation.specs.Bits.{bit}
-use Rattle.translation.proofs.WriteLaws.{RowWritten, row-start, row-room, row-yes, row-no, row-all}
+use Rattle.translation.proofs.WriteLaws.{RowAt, row-first, row-room, row-next, row-all}
 use borrow.Author.Needs.{needs}
 use Rattle.translation.proofs.write.write_row.Statement.{statement}
 use Rattle.translation.proofs.write.write_row.Tie as tie
 
 abbrev Inv-loop : tie.InvT-loop
-Inv-loop part₀ row t last n m₀ a₀ part m a = (a ≤ 64) × RowWritten part₀ (bit row) t last n a m part
+Inv-loop part₀ row t last n m₀ a₀ part m a = RowAt part₀ (bit row) t last n a m part
 
 abbrev μ-loop : tie.MeasureT-loop
 μ-loop part₀ row t last n m₀ a₀ part m a = 64 - a
 
-loop-holds : tie.Need-loop-holds Inv-loop μ-loop
-loop-holds c = (let pre = c .before .pre in (search needs, row-start _ _ _ _ _ (pre .0) (pre .1) (pre .2) (pre .3)))
+first-requires : tie.Need-first-requires Inv-loop μ-loop
+first-requires c κs = search needs
 
-has-requires : tie.Need-has-requires Inv-loop μ-loop
-has-requires c κs = search needs
+loop-holds : tie.Need-loop-holds Inv-loop μ-loop
+loop-holds c = (let pre = c .before .before .pre in row-first _ _ _ _ _ (pre .0) (pre .1) (pre .2) (pre .3) _ (c .first .ensures))
 
 add-chained : tie.Need-add-chained Inv-loop μ-loop
-add-chained c =
-    let turn = c .before .before in
-    let room = row-room _ _ _ _ _ _ _ _ (turn .before .loop .inv .1) (turn .loop-test .taken) (sym (c .before .has .ensures) ∙ c .if1 .taken) in
-    omega (arith, room .1)
+add-chained c = (let turn = c in let w = turn .before .loop .inv in let room = row-room _ _ _ _ _ _ _ _ (w .written) (turn .loop-test .taken) (w .member (turn .loop-test .taken)) in omega (arith, room .1))
 
 chained-requires : tie.Need-chained-requires Inv-loop μ-loop
 chained-requires c κs = search needs
 
+cast-t12 : tie.Need-cast-t12 Inv-loop μ-loop
+cast-t12 c = (let w = c .before .before .loop .inv .written in omega (arith, c .chained .ensures .1, w .last-small))
+
 cast-t13 : tie.Need-cast-t13 Inv-loop μ-loop
-cast-t13 c = (let inv = c .before .before .before .before .loop .inv .1 in omega (arith, c .chained .ensures .1, inv .last-small))
+cast-t13 c = (let w = c .before .before .loop .inv .written in omega (arith, w .type))
 
 cast-t14 : tie.Need-cast-t14 Inv-loop μ-loop
-cast-t14 c = (let inv = c .before .before .before .before .loop .inv .1 in omega (arith, inv .type))
-
-cast-t15 : tie.Need-cast-t15 Inv-loop μ-loop
-cast-t15 c = omega (arith, c .before .before .before .loop-test .taken)
+cast-t14 c = omega (arith, c .before .loop-test .taken)
 
 mul-put : tie.Need-mul-put Inv-loop μ-loop
-mul-put c =
-    let turn = c .before .before .before .before in
-    let room = row-room _ _ _ _ _ _ _ _ (turn .before .loop .inv .1) (turn .loop-test .taken) (sym (c .before .before .before .has .ensures) ∙ c .before .before .if1 .taken) in
-    omega (arith, room .1)
+mul-put c = (let turn = c .before .before in let w = turn .before .loop .inv in let room = row-room _ _ _ _ _ _ _ _ (w .written) (turn .loop-test .taken) (w .member (turn .loop-test .taken)) in omega (arith, room .1))
 
 slice-aggregate-put : tie.Need-slice-aggregate-put Inv-loop μ-loop
 slice-aggregate-put c = refl
 
 put-requires : tie.Need-put-requires Inv-loop μ-loop
-put-requires c κs =
-    let turn = c .before .before .before .before .before in
-    let room = row-room _ _ _ _ _ _ _ _ (turn .before .loop .inv .1) (turn .loop-test .taken) (sym (c .before .before .before .before .has .ensures) ∙ c .before .before .before .if1 .taken) in
-    room .0
+put-requires c κs = (let turn = c .before .before .before in let w = turn .before .loop .inv in let room = row-room _ _ _ _ _ _ _ _ (w .written) (turn .loop-test .taken) (w .member (turn .loop-test .taken)) in room .0)
 
 add-m : tie.Need-add-m Inv-loop μ-loop
-add-m c =
-    let turn = c .before .before .before .before .before .before .before .before in
-    let room = row-room _ _ _ _ _ _ _ _ (turn .before .loop .inv .1) (turn .loop-test .taken) (sym (c .before .before .before .before .before .before .before .has .ensures) ∙ c .before .before .before .before .before .before .if1 .taken) in
-    omega (arith, room .1)
+add-m c = (let turn = c .before .before .before .before .before .before in let w = turn .before .loop .inv in let room = row-room _ _ _ _ _ _ _ _ (w .written) (turn .loop-test .taken) (w .member (turn .loop-test .taken)) in omega (arith, room .1))
 
-add-a : tie.Need-add-a Inv-loop μ-loop
-add-a c = search needs
+add-next : tie.Need-add-next Inv-loop μ-loop
+add-next c = omega (arith, c .before .before .before .before .before .before .loop-test .taken)
+
+next-requires : tie.Need-next-requires Inv-loop μ-loop
+next-requires c κs = omega (arith, c .before .before .before .before .before .before .loop-test .taken)
 
 loop-less : tie.Need-loop-less Inv-loop μ-loop
-loop-less c = search needs
+loop-less c = omega (arith, c .next .ensures .low, c .before .before .before .before .before .before .before .loop-test .taken)
 
 loop-again : tie.Need-loop-again Inv-loop μ-loop
-loop-again c =
-    let turn = c .before .before in
-    let inv = turn .before .loop .inv .1 in
-    let test = c .before .has .ensures in
-    elim (c .if1 .came) [
-      | inl w ↦ rw (w .8) (search needs, row-yes _ _ _ _ _ _ _ _ _ _ _ inv (turn .loop-test .taken) (sym test ∙ w .0 .taken) (w .1 .ensures .0) refl (w .7 ∙ w .4 .ensures))
-      | inr w ↦ rw (w .1, w .2) (search needs, row-no _ _ _ _ _ _ _ _ inv (sym test ∙ w .0 .left))
-    ]
+loop-again c = (let turn = c .before .before .before .before .before .before .before in row-next _ _ _ _ _ _ _ _ _ _ _ _ (turn .before .loop .inv) (turn .loop-test .taken) (c .before .before .before .before .before .before .chained .ensures .0) refl (c .before .before .before .put .ensures) (c .next .ensures))
 
 same-length : tie.Need-same-length Inv-loop μ-loop
-same-length c = c .before .loop .inv .1 .long
+same-length c = c .before .loop .inv .written .long
 
 returns : tie.Need-returns Inv-loop μ-loop
-returns c = row-all _ _ _ _ _ _ _ _ (c .before .loop .inv .1) (omega arith)
+returns c = (let w = c .before .loop .inv in row-all _ _ _ _ _ _ _ _ (w .written) (omega (arith, w .high, c .loop-test .left)))
 
 pub write-row-spec : {M : Type 1} → statement M
 write-row-spec =
@@ -88,18 +71,19 @@ write-row-spec =
     (tie.spec
     Inv-loop
     μ-loop
+    first-requires
     loop-holds
-    has-requires
     add-chained
     chained-requires
+    cast-t12
     cast-t13
     cast-t14
-    cast-t15
     mul-put
     slice-aggregate-put
     put-requires
     add-m
-    add-a
+    add-next
+    next-requires
     loop-less
     loop-again
     same-length
