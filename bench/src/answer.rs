@@ -1,0 +1,62 @@
+//! The plain implementation's answers as text, for comparison with the oracle: `;` stands for a line feed.
+
+use crate::calls::{refusal, rule, written, Function, ROOM};
+use crate::hex::to_hex;
+use crate::plain;
+
+fn bytes_of(call: Function, file: &[u8]) -> (u64, Vec<u8>) {
+    let mut out = [0; ROOM];
+    let answer = call(file, &mut out);
+    (answer, out[..written(answer)].to_vec())
+}
+
+/// `loads` or `refused K`.
+pub fn load(file: &[u8]) -> String {
+    match refusal(plain::load(file)) {
+        0 => "loads".into(),
+        cause => format!("refused {cause}"),
+    }
+}
+
+/// The translation in hexadecimal or `refused K`.
+pub fn translate(file: &[u8]) -> String {
+    let (answer, bytes) = bytes_of(plain::translate, file);
+    match refusal(answer) {
+        0 => to_hex(&bytes),
+        cause => format!("refused {cause}"),
+    }
+}
+
+/// What the judge prints.
+pub fn judge(file: &[u8]) -> String {
+    let (_, bytes) = bytes_of(plain::judge, file);
+    String::from_utf8_lossy(&bytes).replace('\n', ";")
+}
+
+/// The same lines, made from the two verdict calls and the translation.
+pub fn verdicts(file: &[u8]) -> String {
+    let (source, shown) = bytes_of(plain::imm, file);
+    match refusal(source) {
+        0 => {
+            let (_, chip) = bytes_of(plain::translate, file);
+            line("source", source, &shown) + &chip_line(&chip)
+        }
+        11 => chip_line(file),
+        cause => format!("refused {cause};"),
+    }
+}
+
+fn chip_line(file: &[u8]) -> String {
+    let (answer, shown) = bytes_of(plain::armv8, file);
+    line("chip", answer, &shown)
+}
+
+fn line(model: &str, answer: u64, shown: &[u8]) -> String {
+    let word = match (refusal(answer), rule(answer)) {
+        (0, 0) => format!("{model} allowed"),
+        (0, rule) => format!("{model} broken {rule}"),
+        (cause, _) => format!("refused {cause}"),
+    };
+    let events: String = shown.iter().map(|e| format!(" {e}")).collect();
+    format!("{word}{events};")
+}

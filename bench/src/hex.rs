@@ -1,0 +1,15 @@
+//! Files as lines of hexadecimal digits.
+
+pub fn to_hex(file: &[u8]) -> String {
+    file.iter().map(|b| format!("{b:02x}")).collect()
+}
+
+/// The bytes of a line of hexadecimal digits, or nothing if it is none.
+pub fn from_hex(line: &str) -> Option<Vec<u8>> {
+    let digits: Option<Vec<u32>> = line.chars().map(|c| c.to_digit(16)).collect();
+    let digits = digits?;
+    if digits.len() % 2 != 0 {
+        return None;
+    }
+    Some(digits.chunks(2).map(|d| (16 * d[0] + d[1]) as u8).collect())
+}

@@ -1,0 +1,122 @@
+//! The benchmark's files, all made from fixed seeds: the litmus table, recordings of full size by their verdict,
+//! and damaged ones by their cause.
+
+mod damage;
+mod draft;
+mod litmus;
+mod random;
+mod recordings;
+
+use crate::calls::{refusal, rule, written, Call, Function, ARMV8, CALLS, IMM, JUDGE, LOAD, ROOM, TRANSLATE};
+use crate::plain;
+use crate::plain::recording::{CHIP, SOURCE};
+use random::Random;
+
+pub type File = Vec<u8>;
+
+/// A call on the files of a group.
+pub struct Row {
+    pub group: String,
+    pub call: Call,
+    pub files: Vec<File>,
+}
+
+/// Files of each outcome, and of each cause.
+const EACH: usize = 8;
+
+/// Allowed, and the rules whose breaking takes all of a verdict's work.
+const OUTCOMES: [u8; 4] = [0, 3, 4, 5];
+
+const MOST_DRAWN: usize = 100_000;
+
+/// Every row of the table.
+pub fn rows() -> Vec<Row> {
+    let mut rows = Vec::new();
+    source_rows(&mut rows, "litmus", &litmus::files());
+    sized_rows(&mut rows, SOURCE);
+    sized_rows(&mut rows, CHIP);
+    damaged_rows(&mut rows);
+    rows
+}
+
+fn add(rows: &mut Vec<Row>, group: &str, call: Call, files: Vec<File>) {
+    rows.push(Row { group: group.to_string(), call, files });
+}
+
+/// All calls on source files; the ARMv8 verdict is on their translations.
+fn source_rows(rows: &mut Vec<Row>, group: &str, files: &[File]) {
+    add(rows, group, LOAD, files.to_vec());
+    add(rows, group, IMM, files.to_vec());
+    add(rows, group, TRANSLATE, files.to_vec());
+    add(rows, group, ARMV8, files.iter().map(|file| translation(file)).collect());
+    add(rows, group, JUDGE, files.to_vec());
+}
+
+fn translation(file: &[u8]) -> File {
+    let mut out = [0; ROOM];
+    let answer = plain::translate(file, &mut out);
+    out[..written(answer)].to_vec()
+}
+
+/// The full size of one kind: all files together, then by the verdict of the kind's own model.
+fn sized_rows(rows: &mut Vec<Row>, kind: u8) {
+    let (name, verdict) = if kind == SOURCE { ("source", IMM) } else { ("chip", ARMV8) };
+    let by_outcome = recordings_by_outcome(kind, verdict.plain);
+    let all = by_outcome.concat();
+    if kind == SOURCE {
+        source_rows(rows, name, &all);
+    } else {
+        for call in [LOAD, ARMV8, JUDGE] {
+            add(rows, name, call, all.clone());
+        }
+    }
+    for (outcome, files) in OUTCOMES.into_iter().zip(by_outcome) {
+        let word = if outcome == 0 { "allowed".to_string() } else { format!("broken-{outcome}") };
+        let verdict = if kind == SOURCE { IMM } else { ARMV8 };
+        add(rows, &format!("{name}-{word}"), verdict, files);
+    }
+}
+
+/// So many recordings of each outcome.
+fn recordings_by_outcome(kind: u8, verdict: Function) -> [Vec<File>; 4] {
+    let mut random = Random::new(kind as u64);
+    let mut found: [Vec<File>; 4] = Default::default();
+    for _ in 0..MOST_DRAWN {
+        let file = recordings::draw(&mut random, kind).to_bytes(&mut random);
+        let answer = verdict(&file, &mut [0; ROOM]);
+        assert_eq!(refusal(answer), 0, "a drawn recording loads");
+        if let Some(place) = OUTCOMES.iter().position(|&outcome| outcome == rule(answer)) {
+            if found[place].len() < EACH {
+                found[place].push(file);
+            }
+        }
+        if found.iter().all(|files| files.len() == EACH) {
+            return found;
+        }
+    }
+    panic!("too few recordings of an outcome among {MOST_DRAWN}");
+}
+
+/// All calls on damaged files of every cause, then loading by cause.
+fn damaged_rows(rows: &mut Vec<Row>) {
+    let by_cause: Vec<Vec<File>> = (1..=10).map(damaged_by).collect();
+    for call in CALLS {
+        add(rows, "damaged", call, by_cause.concat());
+    }
+    for (cause, files) in (1..).zip(by_cause) {
+        add(rows, &format!("damaged-{cause}"), LOAD, files);
+    }
+}
+
+/// So many files that a cause refuses, of both kinds where it can be.
+fn damaged_by(cause: u8) -> Vec<File> {
+    let mut random = Random::new(100 + cause as u64);
+    let make = |place: usize| {
+        let kind = if cause == 10 || place % 2 == 0 { SOURCE } else { CHIP };
+        let draft = recordings::draw(&mut random, kind);
+        let file = damage::damaged(&mut random, draft, cause);
+        assert_eq!(plain::load(&file), cause as u64, "a damaged file is refused by its cause");
+        file
+    };
+    (0..EACH).map(make).collect()
+}

@@ -1,0 +1,37 @@
+//! The probe's library, its calls taken with slices.
+
+extern "C" {
+    fn probe_load(file: *const u8, length: usize) -> u64;
+    fn probe_imm(file: *const u8, length: usize, out: *mut u8, room: usize) -> u64;
+    fn probe_armv8(file: *const u8, length: usize, out: *mut u8, room: usize) -> u64;
+    fn probe_translate(file: *const u8, length: usize, out: *mut u8, room: usize) -> u64;
+    fn probe_judge(file: *const u8, length: usize, out: *mut u8, room: usize) -> u64;
+}
+
+type Writes = unsafe extern "C" fn(*const u8, usize, *mut u8, usize) -> u64;
+
+fn with_output(call: Writes, file: &[u8], out: &mut [u8]) -> u64 {
+    // SAFETY: the pointers and lengths are those of two slices, of which the second is lent for writing and so lies apart.
+    unsafe { call(file.as_ptr(), file.len(), out.as_mut_ptr(), out.len()) }
+}
+
+pub fn load(file: &[u8]) -> u64 {
+    // SAFETY: the pointer and the length are those of a slice, and the call only reads it.
+    unsafe { probe_load(file.as_ptr(), file.len()) }
+}
+
+pub fn imm(file: &[u8], out: &mut [u8]) -> u64 {
+    with_output(probe_imm, file, out)
+}
+
+pub fn armv8(file: &[u8], out: &mut [u8]) -> u64 {
+    with_output(probe_armv8, file, out)
+}
+
+pub fn translate(file: &[u8], out: &mut [u8]) -> u64 {
+    with_output(probe_translate, file, out)
+}
+
+pub fn judge(file: &[u8], out: &mut [u8]) -> u64 {
+    with_output(probe_judge, file, out)
+}

@@ -1,0 +1,81 @@
+/* The order probe's judge: the calls of libprobe.a (crates/probe).
+ *
+ * A file is any bytes: a recording of memory events, of kind 1 (source) or 2 (chip), or anything else. No call keeps a pointer,
+ * allocates, reads or writes outside what it is lent, or fails to return, whatever the file holds; each is proved to answer as said
+ * here (crates/probe/src/lib.rt). The library has no state and may be called from several threads.
+ *
+ * A pointer and the length behind it lend that many bytes. They must be readable (file) or writable (out), the two must not overlap,
+ * and a pointer must not be null, even where its length is 0.
+ *
+ * Every answer has one form:
+ *   PROBE_REFUSAL(answer)  0, or the number of the cause that refused the call (below); then the other parts are 0
+ *   PROBE_RULE(answer)     of a verdict: 0 where the recording is allowed, else the first broken rule, 1 to 5
+ *   PROBE_LENGTH(answer)   how many bytes were written to the start of out
+ * Bytes of out behind those written keep their contents. A refused call leaves all of out as it was.
+ */
+#ifndef PROBE_H
+#define PROBE_H
+
+#include <stddef.h>
+#include <stdint.h>
+
+#ifdef __cplusplus
+extern "C" {
+#endif
+
+typedef uint64_t probe_answer;
+
+#define PROBE_REFUSAL(answer) ((unsigned)((answer) & 255u))
+#define PROBE_RULE(answer) ((unsigned)(((answer) >> 8) & 255u))
+#define PROBE_LENGTH(answer) ((size_t)((answer) >> 16))
+
+/* The causes of refusal. Of several that apply the smallest is answered. */
+enum {
+    PROBE_SHORT = 1,        /* under 8 bytes */
+    PROBE_KIND = 2,         /* kind not 1 or 2 */
+    PROBE_LIMIT = 3,        /* number of events, locations or links over its limit */
+    PROBE_FILE_LENGTH = 4,  /* length not 8 + 8 times the events + 4 times the links */
+    PROBE_EVENT = 5,        /* class, mode, flag, location or a fence's value not as the layout has them */
+    PROBE_THREADS = 6,      /* a thread chain leaves the records, or an event is met twice or never */
+    PROBE_CHAINS = 7,       /* a link chain leaves the records, or a link is met twice or never */
+    PROBE_LINK = 8,         /* link type not 1 to 7, its conditions broken, or its last byte not 0 */
+    PROBE_CO_RING = 9,      /* co leads back to its start */
+    PROBE_STRONG = 10,      /* strong write without rmw */
+    PROBE_OTHER_KIND = 11,  /* probe_imm or probe_translate of a chip file, probe_armv8 of a source file */
+    PROBE_ROOM = 12         /* out is shorter than what is to be written; nothing was written */
+};
+
+/* Room that is always enough. */
+#define PROBE_MOST_EVENTS 64u        /* for probe_imm and probe_armv8 */
+#define PROBE_MOST_TRANSLATION 1320u /* for probe_translate */
+#define PROBE_MOST_LINES 640u        /* for probe_judge */
+
+/* A file that loads has at most so many bytes. */
+#define PROBE_MOST_FILE 1412u
+
+/* Does the file load? Refusals 1 to 10; writes nothing. */
+probe_answer probe_load(const uint8_t *file, size_t length);
+
+/* The verdict of IMM on a source file, and of ARMv8 on a chip file. Refusals 1 to 12.
+ * Writes the numbers of the events that are shown, a byte each; an initial write of location l has the number 56 + l:
+ *   allowed          all events, each behind those that must come before it
+ *   broken 1         the read that has no source
+ *   broken 2         two writes of one location that co does not order
+ *   broken 4         the read and the write of a pair that another write comes between
+ *   broken 3 and 5   a ring of events, the smallest first, each ordered before the next and the last before the first */
+probe_answer probe_imm(const uint8_t *file, size_t length, uint8_t *out, size_t room);
+probe_answer probe_armv8(const uint8_t *file, size_t length, uint8_t *out, size_t room);
+
+/* The translation of a source file to ARMv8 instructions, a chip file that loads. Refusals 1 to 12.
+ * A source file that probe_imm calls broken has a translation that probe_armv8 calls broken. */
+probe_answer probe_translate(const uint8_t *file, size_t length, uint8_t *out, size_t room);
+
+/* The lines that the program judge prints of the file: of a source file a line for it and one for its translation, of a chip file one,
+ * of a refused file the line `refused` and the number. Each ends in a line feed; there is no 0 behind them. Refusal 12 only. */
+probe_answer probe_judge(const uint8_t *file, size_t length, uint8_t *out, size_t room);
+
+#ifdef __cplusplus
+}
+#endif
+
+#endif

@@ -1,0 +1,260 @@
+/* Recordings written out by hand: header, event records, link records, a line each. The source files with what is expected of them,
+ * then a file for each cause of refusal. The rings shown are the only ones of their length, and the library shows a shortest one. */
+
+/* worked example */
+static const uint8_t worked[] = {
+    1, 2, 1, 1, 1, 0, 0, 0,
+    2, 2, 0, 0, 0, 1, 0, 0,
+    0, 1, 0, 0, 0, 1, 0, 1,
+    0, 1, 1, 0,
+};
+
+static const uint8_t worked_chip[] = {
+    2, 2, 1, 1, 1, 0, 0, 0,
+    2, 2, 0, 0, 0, 1, 0, 0,
+    0, 1, 0, 0, 0, 1, 0, 1,
+    0, 1, 1, 0,
+};
+
+/* read without a source */
+static const uint8_t unread[] = {
+    1, 1, 1, 0, 1, 0, 0, 0,
+    0, 1, 0, 0, 0, 0, 0, 0,
+};
+
+static const uint8_t unread_chip[] = {
+    2, 1, 1, 0, 1, 0, 0, 0,
+    0, 1, 0, 0, 0, 0, 0, 0,
+};
+
+/* two writes without an order */
+static const uint8_t unordered[] = {
+    1, 2, 1, 0, 1, 2, 0, 0,
+    0, 2, 0, 0, 0, 1, 0, 0,
+    0, 2, 0, 0, 0, 2, 0, 0,
+};
+
+static const uint8_t unordered_chip[] = {
+    2, 2, 1, 0, 1, 2, 0, 0,
+    0, 2, 0, 0, 0, 1, 0, 0,
+    0, 2, 0, 0, 0, 2, 0, 0,
+};
+
+/* newer value read before older */
+static const uint8_t older[] = {
+    1, 4, 1, 3, 1, 3, 0, 0,
+    2, 2, 0, 0, 0, 1, 0, 0,
+    0, 2, 0, 0, 0, 2, 0, 1,
+    4, 1, 0, 0, 0, 2, 0, 2,
+    0, 1, 0, 0, 0, 1, 0, 3,
+    0, 2, 1, 0,
+    0, 1, 2, 0,
+    0, 1, 1, 0,
+};
+
+static const uint8_t older_chip[] = {
+    2, 4, 1, 3, 1, 3, 0, 0,
+    2, 2, 0, 0, 0, 1, 0, 0,
+    0, 2, 0, 0, 0, 2, 0, 1,
+    4, 1, 0, 0, 0, 2, 0, 2,
+    0, 1, 0, 0, 0, 1, 0, 3,
+    0, 2, 1, 0,
+    0, 1, 2, 0,
+    0, 1, 1, 0,
+};
+
+/* two pairs both reading the initial write */
+static const uint8_t pairs[] = {
+    1, 4, 1, 5, 1, 3, 0, 0,
+    2, 1, 0, 1, 0, 0, 0, 1,
+    0, 2, 0, 0, 0, 1, 0, 2,
+    4, 1, 0, 1, 0, 0, 0, 3,
+    0, 2, 0, 0, 0, 2, 0, 4,
+    0, 1, 56, 0,
+    0, 3, 1, 0,
+    0, 1, 56, 0,
+    5, 2, 2, 0,
+    0, 3, 3, 0,
+};
+
+static const uint8_t pairs_chip[] = {
+    2, 4, 1, 7, 1, 3, 0, 0,
+    2, 1, 0, 1, 0, 0, 0, 1,
+    0, 2, 0, 0, 0, 1, 0, 2,
+    4, 1, 0, 1, 0, 0, 0, 4,
+    0, 2, 0, 0, 0, 2, 0, 5,
+    0, 1, 56, 0,
+    3, 3, 1, 0,
+    0, 6, 1, 0,
+    0, 1, 56, 0,
+    6, 2, 2, 0,
+    7, 3, 3, 0,
+    0, 6, 3, 0,
+};
+
+/* store buffering with SC fences */
+static const uint8_t buffering[] = {
+    1, 6, 2, 2, 1, 4, 0, 0,
+    2, 2, 0, 0, 0, 1, 0, 0,
+    3, 3, 4, 0, 0, 0, 0, 0,
+    0, 1, 0, 0, 1, 0, 0, 1,
+    5, 2, 0, 0, 1, 1, 0, 0,
+    6, 3, 4, 0, 0, 0, 0, 0,
+    0, 1, 0, 0, 0, 0, 0, 2,
+    0, 1, 57, 0,
+    0, 1, 56, 0,
+};
+
+static const uint8_t buffering_chip[] = {
+    2, 6, 2, 2, 1, 4, 0, 0,
+    2, 2, 0, 0, 0, 1, 0, 0,
+    3, 3, 6, 0, 0, 0, 0, 0,
+    0, 1, 0, 0, 1, 0, 0, 1,
+    5, 2, 0, 0, 1, 1, 0, 0,
+    6, 3, 6, 0, 0, 0, 0, 0,
+    0, 1, 0, 0, 0, 0, 0, 2,
+    0, 1, 57, 0,
+    0, 1, 56, 0,
+};
+
+/* strong pair, after which a fence is chained in */
+static const uint8_t strong[] = {
+    1, 2, 1, 2, 1, 0, 0, 0,
+    2, 1, 0, 1, 0, 0, 0, 1,
+    0, 2, 0, 1, 0, 1, 0, 2,
+    0, 1, 56, 0,
+    0, 3, 1, 0,
+};
+
+static const uint8_t strong_chip[] = {
+    2, 3, 1, 3, 1, 0, 0, 0,
+    2, 1, 0, 1, 0, 0, 0, 1,
+    3, 2, 0, 0, 0, 1, 0, 2,
+    0, 3, 5, 0, 0, 0, 0, 0,
+    0, 1, 56, 0,
+    3, 3, 1, 0,
+    0, 6, 1, 0,
+};
+
+/* empty recording */
+static const uint8_t empty[] = {
+    1, 0, 0, 0, 0, 0, 0, 0,
+};
+
+static const uint8_t empty_chip[] = {
+    2, 0, 0, 0, 0, 0, 0, 0,
+};
+
+/* under 8 bytes */
+static const uint8_t refused_1[] = {
+    1, 0, 0, 0, 0, 0, 0,
+};
+
+/* kind 3 */
+static const uint8_t refused_2[] = {
+    3, 0, 0, 0, 0, 0, 0, 0,
+};
+
+/* 33 events in a source file */
+static const uint8_t refused_3[] = {
+    1, 33, 0, 0, 0, 0, 0, 0,
+};
+
+/* no record of the one event */
+static const uint8_t refused_4[] = {
+    1, 1, 1, 0, 1, 0, 0, 0,
+};
+
+/* class 0 */
+static const uint8_t refused_5[] = {
+    1, 1, 1, 0, 1, 0, 0, 0,
+    0, 0, 0, 0, 0, 0, 0, 0,
+};
+
+/* event on no thread */
+static const uint8_t refused_6[] = {
+    1, 1, 1, 0, 0, 0, 0, 0,
+    0, 1, 0, 0, 0, 0, 0, 0,
+};
+
+/* link into no event */
+static const uint8_t refused_7[] = {
+    1, 1, 1, 1, 1, 0, 0, 0,
+    0, 1, 0, 0, 0, 0, 0, 0,
+    0, 1, 56, 0,
+};
+
+/* link of type 8 */
+static const uint8_t refused_8[] = {
+    1, 1, 1, 1, 1, 0, 0, 0,
+    0, 1, 0, 0, 0, 0, 0, 1,
+    0, 8, 56, 0,
+};
+
+/* two writes each co-before the other */
+static const uint8_t refused_9[] = {
+    1, 2, 1, 2, 1, 0, 0, 0,
+    2, 2, 0, 0, 0, 1, 0, 1,
+    0, 2, 0, 0, 0, 2, 0, 2,
+    0, 2, 2, 0,
+    0, 2, 1, 0,
+};
+
+/* strong write without rmw */
+static const uint8_t refused_10[] = {
+    1, 1, 1, 0, 1, 0, 0, 0,
+    0, 2, 0, 1, 0, 1, 0, 0,
+};
+
+static const struct source sources[] = {
+    {"worked example", SIZED(worked), 0, 3, EVENTS(1, 2, 56),
+     SIZED(worked_chip), 0, 3, EVENTS(1, 2, 56),
+     "source allowed 1 2 56\n"
+     "chip allowed 1 2 56\n"},
+    {"read without a source", SIZED(unread), 1, 1, EVENTS(1),
+     SIZED(unread_chip), 1, 1, EVENTS(1),
+     "source broken 1 1\n"
+     "chip broken 1 1\n"},
+    {"two writes without an order", SIZED(unordered), 2, 2, EVENTS(1, 2),
+     SIZED(unordered_chip), 2, 2, EVENTS(1, 2),
+     "source broken 2 1 2\n"
+     "chip broken 2 1 2\n"},
+    {"newer value read before older", SIZED(older), 3, 2, EVENTS(3, 4),
+     SIZED(older_chip), 3, 3, EVENTS(2, 3, 4),
+     "source broken 3 3 4\n"
+     "chip broken 3 2 3 4\n"},
+    {"two pairs both reading the initial write", SIZED(pairs), 4, 2, EVENTS(3, 4),
+     SIZED(pairs_chip), 4, 2, EVENTS(3, 4),
+     "source broken 4 3 4\n"
+     "chip broken 4 3 4\n"},
+    {"store buffering with SC fences", SIZED(buffering), 5, 2, EVENTS(2, 5),
+     SIZED(buffering_chip), 5, 4, EVENTS(1, 3, 4, 6),
+     "source broken 5 2 5\n"
+     "chip broken 5 1 3 4 6\n"},
+    {"strong pair, after which a fence is chained in", SIZED(strong), 0, 3, EVENTS(1, 2, 56),
+     SIZED(strong_chip), 0, 4, EVENTS(1, 2, 3, 56),
+     "source allowed 1 2 56\n"
+     "chip allowed 1 2 3 56\n"},
+    {"empty recording", SIZED(empty), 0, 0, NULL,
+     SIZED(empty_chip), 0, 0, NULL,
+     "source allowed\n"
+     "chip allowed\n"},
+};
+
+static const struct {
+    const char *name;
+    const uint8_t *file;
+    size_t length;
+    unsigned cause;
+} refusals[] = {
+    {"under 8 bytes", SIZED(refused_1), 1},
+    {"kind 3", SIZED(refused_2), 2},
+    {"33 events in a source file", SIZED(refused_3), 3},
+    {"no record of the one event", SIZED(refused_4), 4},
+    {"class 0", SIZED(refused_5), 5},
+    {"event on no thread", SIZED(refused_6), 6},
+    {"link into no event", SIZED(refused_7), 7},
+    {"link of type 8", SIZED(refused_8), 8},
+    {"two writes each co-before the other", SIZED(refused_9), 9},
+    {"strong write without rmw", SIZED(refused_10), 10},
+};
