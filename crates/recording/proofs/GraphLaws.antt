@@ -9,20 +9,21 @@ use native.Mathlib.Omega.{arith}
 use native.Mathlib.Decide.{ℕ-discrete, decLt}
 use borrow.Author.Tests.{eq-eqb, ne-eqb, eqb-true, lt-leb, le-ltb, ltb-true, leb-true}
 use lib.Dec.{eqb, leb, ltb}
-use lib.ListN.{getD, replicate}
+use lib.ListN.{length, getD, set, replicate, length-set}
+use lib.Seq.{getD-set-same, getD-set-other}
 use Rattle.relation.specs.Rel.{Set, Rel, empty, none, single, union, intersection, product, inverse, either, both, some, below, plus, nodes}
-use Rattle.relation.specs.Bits.{edge}
+use Rattle.relation.specs.Bits.{bit, edge}
 use Rattle.relation.proofs.Meaning.{Mem, and-left, and-right, and-both, or-either, or-left, or-right, some-sound, some-complete, mem-below, below-mem}
-use Rattle.relation.proofs.SetLaws.{or-comm, or-false, and-false}
+use Rattle.relation.proofs.SetLaws.{and-false, upto, upto-none, upto-with, upto-keep, upto-skip, upto-done}
 use Rattle.models.specs.Recording.{Recording, event, ofClass, ofMode, flagged, access, sameLocation, coStep}
 use Rattle.models.specs.Graph.{base}
 use Rattle.recording.specs.Layout.{events, locations, eventByte, Sized}
 use Rattle.recording.specs.Chains.{each, nextEvent}
 use Rattle.recording.specs.Decode.{isRecorded, isInitial, decode, recordOr, fieldOr}
 use Rattle.recording.specs.Causes.{legal, eventLegal, readLegal, writeLegal}
-use Rattle.recording.specs.Sets.{accessAt, membersOf, SourcesInto, LinkRows}
+use Rattle.recording.specs.Sets.{accessAt, membersOf, AccessRows, SourcesInto, LinkRows}
 use Rattle.recording.specs.declared.Members.{Members}
-use Rattle.recording.specs.declared.Members.the-variants.{Recorded, Initial, Class, Mode, Flagged, At}
+use Rattle.recording.specs.declared.Members.the-variants.{Recorded, Initial, Class, Mode, Flagged}
 use Rattle.recording.proofs.FieldLaws.{recorded-bounds, event-small, location-initial}
 use Rattle.recording.proofs.ChainLaws.{each-at}
 use Rattle.recording.proofs.LegalLaws.{next-first}
@@ -57,23 +58,27 @@ module _ (f : List ℕ) (e : ℕ) (r : isRecorded f e ≡ false) (i : isInitial 
   access-none = rw (class-none 1, class-none 2)
 
   members-none : (s : Members) → membersOf f s e ≡ false
-  unfolding membersOf ofMode flagged accessAt
+  unfolding membersOf ofMode flagged
   members-none Recorded = r
   members-none Initial = i
   members-none (Class k) = class-none k
   members-none (Mode k m) = rw (class-none k)
   members-none (Flagged k) = rw (class-none k)
-  members-none (At l) = rw access-none
 
 pub members-out : (f : List ℕ) → Sized f → (s : Members) (e : ℕ) → 64 ≤ e → membersOf f s e ≡ false
 members-out f z s e h = members-none f e (recorded-out f z e h) (initial-out f z e h) s
 
 -- No event is numbered between the records and the initial writes.
-pub members-gap : (f : List ℕ) (s : Members) (e : ℕ) → events f < e → e < 56 → membersOf f s e ≡ false
+gap-recorded : (f : List ℕ) (e : ℕ) → events f < e → isRecorded f e ≡ false
+gap-recorded f e h = refuted (isRecorded f e) (λ p. let (a, b) = recorded-bounds f e p in omega arith)
+
+gap-initial : (f : List ℕ) (e : ℕ) → e < 56 → isInitial f e ≡ false
 unfolding isInitial
-members-gap f s e h g =
-    members-none f e (refuted (isRecorded f e) (λ p. let (a, b) = recorded-bounds f e p in omega arith))
-    (refuted (leb 56 e && ltb e (56 + locations f)) (λ p. let w = leb-true 56 e (and-left (leb 56 e) (ltb e (56 + locations f)) p) in omega arith)) s
+gap-initial f e g =
+    refuted (leb 56 e && ltb e (56 + locations f)) (λ p. let w = leb-true 56 e (and-left (leb 56 e) (ltb e (56 + locations f)) p) in omega arith)
+
+pub members-gap : (f : List ℕ) (s : Members) (e : ℕ) → events f < e → e < 56 → membersOf f s e ≡ false
+members-gap f s e h g = members-none f e (gap-recorded f e h) (gap-initial f e g) s
 
 -- Membership by cases.
 module _ (f : List ℕ) (s : Members) (e : ℕ) (b : Bool) where
@@ -99,10 +104,6 @@ module _ (f : List ℕ) (s : Members) (e : ℕ) (b : Bool) where
   pub of-flagged : (k : ℕ) → s ≡ Flagged k → b ≡ flagged (decode f) k e → b ≡ membersOf f s e
   unfolding membersOf
   of-flagged k p q = of-case (Flagged k) p q
-
-  pub of-location : (l : ℕ) → s ≡ At l → b ≡ accessAt f l e → b ≡ membersOf f s e
-  unfolding membersOf
-  of-location l p q = of-case (At l) p q
 
 -- The row of the event that follows a.
 module _ (f : List ℕ) (a : ℕ) where
@@ -171,23 +172,6 @@ pub po-is : (f : List ℕ) (i e : Set) (a b c d : Rel) → i ≡ isInitial f →
 unfolding base decode product
 po-is f i e a b c d p q u v w o = o ∙ ap₂ either (u ∙ ap₂ product p q) (w ∙ ap (plus nodes) v)
 
--- Same location, one location more at a time.
-unfoldable pub located : List ℕ → ℕ → Rel
-located f k a b = some (below k) (λ l. accessAt f l a && accessAt f l b)
-
-pub located-none : (f : List ℕ) → none ≡ located f 0
-unfolding located none empty some below
-located-none f = refl
-
-pub located-more : (f : List ℕ) (k : ℕ) (r s t : Rel) (u : Set) → r ≡ located f k → u ≡ accessAt f k → s ≡ product u u → t ≡ either r s → t ≡ located f (k + 1)
-unfolding located either union product some below
-located-more f k r s t u p q v w =
-    w ∙ fun-ext
-    (λ a. fun-ext
-    (λ b. ap₂ (λ (x y : Rel). x a b || y a b) p (v ∙ ap₂ product q q)
-    ∙ or-comm (some (below k) (λ l. accessAt f l a && accessAt f l b)) (accessAt f k a && accessAt f k b)
-    ∙ ap (λ (n : ℕ). some (below n) (λ l. accessAt f l a && accessAt f l b)) (sym (add-one k))))
-
 -- In a file whose events are legal, reads and writes have one of its locations.
 legal-read-location : (k L class mode flag location value : ℕ) → class ≡ 1 → legal k L class mode flag location value ≡ true → location < L
 unfolding legal
@@ -208,6 +192,69 @@ class-is f k e p = eqb-true (decode f .class e) k (and-right (event (decode f) e
 class-event : (f : List ℕ) (k e : ℕ) → ofClass (decode f) k e ≡ true → event (decode f) e ≡ true
 unfolding ofClass
 class-event f k e p = and-left (event (decode f) e) (eqb (decode f .class e) k) p
+
+no-access : (f : List ℕ) (e : ℕ) → access (decode f) e ≡ false → none e ≡ sameLocation (decode f) e
+unfolding sameLocation none empty
+no-access f e p = fun-ext (λ b. sym (rw p))
+
+pub location-gap : (f : List ℕ) (e : ℕ) → events f < e → e < 56 → none e ≡ sameLocation (decode f) e
+location-gap f e h g = no-access f e (access-none f e (gap-recorded f e h) (gap-initial f e g))
+
+pub location-out : (f : List ℕ) → Sized f → (e : ℕ) → 64 ≤ e → sameLocation (decode f) e ≡ empty
+unfolding none
+location-out f s e h = sym (no-access f e (access-none f e (recorded-out f s e h) (initial-out f s e h)))
+
+pub access-gap : (f : List ℕ) (l e : ℕ) → events f < e → e < 56 → accessAt f l e ≡ false
+unfolding accessAt
+access-gap f l e h g = rw (access-none f e (gap-recorded f e h) (gap-initial f e g))
+
+pub access-out : (f : List ℕ) → Sized f → (l e : ℕ) → 64 ≤ e → accessAt f l e ≡ false
+unfolding accessAt
+access-out f s l e h = rw (access-none f e (recorded-out f s e h) (initial-out f s e h))
+
+-- The rows of the locations, one event more at a time.
+pub record Locating (f : List ℕ) (e : ℕ) (h : List (List ℕ)) : Type 0 where
+  pub long : length h ≡ 8
+  pub row : (l : ℕ) → l < 8 → bit (getD h l []) ≡ upto e (accessAt f l)
+
+pub locating-none : (f : List ℕ) → Locating f 0 (replicate 8 (replicate 8 0))
+locating-none f = record { long = refl; row = λ l h. empty-row 8 l ∙ upto-none (accessAt f l) }
+
+module _ (f : List ℕ) (e : ℕ) (h : List (List ℕ)) (w : Locating f e h) (l : ℕ) (at : (m : ℕ) → m < 8 → accessAt f m e ≡ eqb l m) where
+  pub locating-with : (v : List ℕ) → l < 8 → bit v ≡ union (bit (getD h l [])) (single e) → Locating f (e + 1) (set h l v)
+  locating-with v k p =
+      record {
+        long = length-set h l v ∙ w .long;
+        row = λ m g. elim (ℕ-discrete l m) [
+          | yes q ↦ subst (λ (i : ℕ). bit (getD (set h l v) i []) ≡ upto (e + 1) (accessAt f i)) q
+              (ap bit (getD-set-same h l v [] (omega (arith, k, w .long))) ∙ p ∙ upto-with e (accessAt f l) _ (w .row l k) (at l k ∙ eq-eqb l l refl))
+          | no d ↦ ap bit (getD-set-other h l m v [] (λ q. d (sym q))) ∙ upto-keep e (accessAt f m) _ (w .row m g) (at m g ∙ ne-eqb l m d)
+        ];
+      }
+
+  pub locating-keep : 8 ≤ l → Locating f (e + 1) h
+  locating-keep k = record { long = w .long; row = λ m g. upto-keep e (accessAt f m) _ (w .row m g) (at m g ∙ ne-eqb l m (λ q. omega arith)) }
+
+pub locating-gap : (f : List ℕ) (e : ℕ) (h : List (List ℕ)) → Locating f e h → events f < e → e ≤ 56 → Locating f 56 h
+locating-gap f e h w k g = record { long = w .long; row = λ l i. upto-skip e 56 (accessAt f l) _ g (w .row l i) (λ j a b. access-gap f l j (omega arith) b) }
+
+pub locating-all : (f : List ℕ) → Sized f → (e : ℕ) (h : List (List ℕ)) → 64 ≤ e → Locating f e h → AccessRows f h
+locating-all f s e h k w = record { long = w .long; row = λ l i. upto-done e 64 (accessAt f l) _ k (w .row l i) (access-out f s l) }
+
+-- The location of an event, as the code answers it.
+pub place-none : (f : List ℕ) (e : ℕ) → access (decode f) e ≡ false → (l : ℕ) → l < 8 → accessAt f l e ≡ eqb 8 l
+unfolding accessAt
+place-none f e p l h = rw p (sym (ne-eqb 8 l (λ q. omega arith)))
+
+pub place-far : (f : List ℕ) (e x : ℕ) → x ≡ decode f .location e → 8 ≤ x → (l : ℕ) → l < 8 → accessAt f l e ≡ eqb 8 l
+unfolding accessAt
+place-far f e x p g l h =
+    ap (λ (c : Bool). access (decode f) e && c) (ne-eqb (decode f .location e) l (λ q. omega (arith, p, q))) ∙ and-false (access (decode f) e)
+    ∙ sym (ne-eqb 8 l (λ q. omega arith))
+
+pub place-here : (f : List ℕ) (e x : ℕ) → access (decode f) e ≡ true → x ≡ decode f .location e → (l : ℕ) → l < 8 → accessAt f l e ≡ eqb x l
+unfolding accessAt
+place-here f e x p q l h = rw p (ap (λ (y : ℕ). eqb y l) (sym q))
 
 module _ (f : List ℕ) (s : Sized f) (legal-events : each (events f) (eventLegal f) ≡ true) where
   recorded-legal : (e : ℕ) → isRecorded f e ≡ true → eventLegal f e ≡ true
@@ -234,37 +281,26 @@ module _ (f : List ℕ) (s : Sized f) (legal-events : each (events f) (eventLega
         | inr q ↦ class-location 2 e q (λ r. legal-write-location _ _ _ _ _ _ _ (class-is f 2 e q) (recorded-legal e r))
       ]
 
-  pub located-all : (k : ℕ) (r : Rel) → locations f ≤ k → r ≡ located f k → r ≡ sameLocation (decode f)
-  unfolding located sameLocation accessAt
-  located-all k r h p = p ∙ fun-ext (λ a. fun-ext (λ b. same-bool _ _ (one-way a b) (other-way a b)))
+  -- The row of an access is that of its location; what is no access has none.
+  pub location-row : (e l : ℕ) → ((m : ℕ) → m < 8 → accessAt f m e ≡ eqb l m) → l < 8 → (x : Set) → x ≡ accessAt f l → x ≡ sameLocation (decode f) e
+  unfolding sameLocation accessAt
+  location-row e l at h x p =
+      let here = at l h ∙ eq-eqb l l refl in
+      let is-access = and-left (access (decode f) e) (eqb (decode f .location e) l) here in
+      let same = eqb-true (decode f .location e) l (and-right (access (decode f) e) (eqb (decode f .location e) l) here) in
+      p ∙ fun-ext (λ b. ap (λ (c : Bool). access (decode f) b && c) (eqb-swap (decode f .location b) l) ∙ sym (rw (is-access, same)))
     where
-      same-bool : (x y : Bool) → (x ≡ true → y ≡ true) → (y ≡ true → x ≡ true) → x ≡ y
-      same-bool true y u v = sym (u refl)
-      same-bool false true u v = v refl
-      same-bool false false u v = refl
+      eqb-swap : (a b : ℕ) → eqb a b ≡ eqb b a
+      eqb-swap a b = elim (ℕ-discrete a b) [ yes p ↦ eq-eqb a b p ∙ sym (eq-eqb b a (sym p)) | no d ↦ ne-eqb a b d ∙ sym (ne-eqb b a (λ q. d (sym q))) ]
 
-      one-way : (a b : ℕ) → some (below k) (λ l. accessAt f l a && accessAt f l b) ≡ true → sameLocation (decode f) a b ≡ true
-      one-way a b q =
-          let (l, m, w) = some-sound (below k) (λ i. accessAt f i a && accessAt f i b) q in
-          let u = and-left (accessAt f l a) (accessAt f l b) w in
-          let v = and-right (accessAt f l a) (accessAt f l b) w in
-          let x = eqb-true (decode f .location a) l (and-right (access (decode f) a) (eqb (decode f .location a) l) u) in
-          let y = eqb-true (decode f .location b) l (and-right (access (decode f) b) (eqb (decode f .location b) l) v) in
-          and-both (access (decode f) a && access (decode f) b) (eqb (decode f .location a) (decode f .location b))
-          (and-both (access (decode f) a) (access (decode f) b) (and-left (access (decode f) a) _ u) (and-left (access (decode f) b) _ v))
-          (eq-eqb (decode f .location a) (decode f .location b) (x ∙ sym y))
-
-      other-way : (a b : ℕ) → sameLocation (decode f) a b ≡ true → some (below k) (λ l. accessAt f l a && accessAt f l b) ≡ true
-      other-way a b q =
-          let l : ℕ = decode f .location a in
-          let u = and-left (access (decode f) a && access (decode f) b) (eqb (decode f .location a) (decode f .location b)) q in
-          let e = eqb-true (decode f .location a) (decode f .location b) (and-right (access (decode f) a && access (decode f) b) _ q) in
-          let x = and-left (access (decode f) a) (access (decode f) b) u in
-          let y = and-right (access (decode f) a) (access (decode f) b) u in
-          let w = access-location a x in
-          some-complete (below k) (λ i. accessAt f i a && accessAt f i b) l (mem-below k l (omega arith))
-          (and-both (accessAt f l a) (accessAt f l b) (and-both (access (decode f) a) (eqb l l) x (eq-eqb l l refl))
-          (and-both (access (decode f) b) (eqb (decode f .location b) l) y (eq-eqb (decode f .location b) l (sym e))))
+  pub location-none : (e l : ℕ) → ((m : ℕ) → m < 8 → accessAt f m e ≡ eqb l m) → 8 ≤ l → none e ≡ sameLocation (decode f) e
+  unfolding accessAt
+  location-none e l at h =
+      no-access f e (refuted (access (decode f) e) (λ p.
+      let w = access-location e p in
+      let q = and-both (access (decode f) e) (eqb (decode f .location e) (decode f .location e)) p (eq-eqb (decode f .location e) (decode f .location e) refl) in
+      let z = eqb-true l (decode f .location e) (sym (at (decode f .location e) (omega (arith, s .most-locations))) ∙ q) in
+      omega (arith, s .most-locations)))
 
 -- What co follows from, as the code makes it.
 pub co-is : (f : List ℕ) (i e w u : Set) (a c d b g : Rel) → e ≡ isRecorded f → w ≡ ofClass (decode f) 2 → u ≡ intersection e w → i ≡ isInitial f

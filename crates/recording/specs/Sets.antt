@@ -10,7 +10,7 @@ use Rattle.relation.specs.Bits.{bit, edge}
 use Rattle.models.specs.Recording.{ofClass, ofMode, flagged, access}
 use Rattle.recording.specs.Decode.{isRecorded, isInitial, decode}
 use Rattle.recording.specs.declared.Members.{Members}
-use Rattle.recording.specs.declared.Members.the-variants.{Recorded, Initial, Class, Mode, Flagged, At}
+use Rattle.recording.specs.declared.Members.the-variants.{Recorded, Initial, Class, Mode, Flagged}
 
 -- The reads and writes of location l.
 unfoldable pub accessAt : List ℕ → ℕ → Set
@@ -22,7 +22,11 @@ membersOf f Initial = isInitial f
 membersOf f (Class k) = ofClass (decode f) k
 membersOf f (Mode k m) = ofMode (decode f) k m
 membersOf f (Flagged k) = flagged (decode f) k
-membersOf f (At l) = accessAt f l
+
+-- The rows hold the reads and writes of each location.
+pub record AccessRows (f : List ℕ) (rows : List (List ℕ)) : Type 0 where
+  pub long : length rows ≡ 8
+  pub row : (l : ℕ) → l < 8 → bit (getD rows l []) ≡ accessAt f l
 
 -- The rows hold the sources of the links into b, by type.
 pub record SourcesInto (f : List ℕ) (b : ℕ) (rows : List (List ℕ)) : Type 0 where

@@ -9,6 +9,7 @@ use relation::row;
 ghost use mathlib.Core.Path.{_≡_};
 ghost use mathlib.Core.Bool.{true};
 ghost use Prim.Native.Nat.{ℕ, _≤_, _<_};
+ghost use lib.Dec.{eqb};
 ghost use Rattle.relation.specs.Bits.{bit, edge};
 ghost use Rattle.relation.specs.Rel.{nodes, inverse};
 ghost use Rattle.models.specs.Recording.{sameLocation, coStep};
@@ -17,16 +18,9 @@ ghost use Rattle.recording.specs.Layout.{events, Sized};
 ghost use Rattle.recording.specs.Chains.{each};
 ghost use Rattle.recording.specs.Decode.{decode};
 ghost use Rattle.recording.specs.Causes.{eventLegal, Readable};
-ghost use Rattle.recording.specs.Sets.{accessAt, membersOf, SourcesInto, LinkRows};
+ghost use Rattle.recording.specs.Sets.{accessAt, membersOf, AccessRows, SourcesInto, LinkRows};
 
-// Whether e is a read or write of location l.
-pub fn access_at(file: &[u8], e: usize, l: usize) -> bool
-    requires { ⌜ Sized (now file) ⌝ }
-    ensures { λ r. ⌜ r ≡ accessAt (now (file .entry)) l e ⌝ }
-{
-    field::is_access(file, e) && field::location_of(file, e) == l
-}
-
+// Whether e is in s.
 pub fn is_member(file: &[u8], s: Members, e: usize) -> bool
     requires { ⌜ Sized (now file) ⌝ }
     ensures { λ r. ⌜ r ≡ membersOf (now (file .entry)) s e ⌝ }
@@ -37,7 +31,6 @@ pub fn is_member(file: &[u8], s: Members, e: usize) -> bool
         Members::Class(k) => field::of_class(file, e, k),
         Members::Mode(k, m) => field::of_mode(file, e, k, m),
         Members::Flagged(k) => field::is_flagged(file, e, k),
-        Members::At(l) => access_at(file, e, l),
     }
 }
 
@@ -175,19 +168,61 @@ pub fn links(file: &[u8], t: usize) -> [[u8; 8]; 64]
     grid::inverse(link_rows(file, t))
 }
 
-// The reads and writes of one location, for each location.
+// The location of a read or write, where it is below 8; 8 for what is no such event.
+pub fn place_of(file: &[u8], e: usize) -> usize
+    requires { ⌜ Sized (now file) ⌝ }
+    ensures { λ r. ⌜ ((l : ℕ) → l < 8 → accessAt (now (file .entry)) l e ≡ eqb r l) ⌝ }
+{
+    if !field::is_access(file, e) {
+        return 8;
+    }
+    let l = field::location_of(file, e);
+    if 8 <= l {
+        return 8;
+    }
+    l
+}
+
+// The reads and writes of each location below 8.
+pub fn by_location(file: &[u8]) -> [[u8; 8]; 8]
+    requires { ⌜ Sized (now file) ⌝ }
+    ensures { λ r. ⌜ AccessRows (now (file .entry)) r ⌝ }
+{
+    let n = field::events(file);
+    let mut h = [[0u8; 8]; 8];
+    let mut e: usize = 0;
+    while e < 64 {
+        let l = place_of(file, e);
+        if l < 8 {
+            let x = h[l];
+            h[l] = row::with(x, e);
+        }
+        if e == n {
+            e = 55;
+        }
+        e += 1;
+    }
+    h
+}
+
+// The reads and writes of the same location.
 pub fn same_location(file: &[u8]) -> [[u8; 8]; 64]
     requires { ⌜ Sized (now file) × (each (events (now file)) (eventLegal (now file)) ≡ true) ⌝ }
     ensures { λ r. ⌜ edge r ≡ sameLocation (decode (now (file .entry))) ⌝ }
 {
-    let n = field::locations(file);
+    let n = field::events(file);
+    let rows = by_location(file);
     let mut h = grid::empty();
-    let mut l: usize = 0;
-    while l < n {
-        let s = members(file, Members::At(l));
-        let z = grid::or(h, grid::product(s, s));
-        h = z;
-        l += 1;
+    let mut e: usize = 0;
+    while e < 64 {
+        let l = place_of(file, e);
+        if l < 8 {
+            h[e] = rows[l];
+        }
+        if e == n {
+            e = 55;
+        }
+        e += 1;
     }
     h
 }

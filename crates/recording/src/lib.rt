@@ -31,6 +31,4 @@ pub enum Members {
     Mode(usize, usize),
     // of a class, with flag 1
     Flagged(usize),
-    // reads or writes of a location
-    At(usize),
 }

@@ -11,7 +11,7 @@ use borrow.Author.Tests.{eq-eqb, ne-eqb, lt-ltb, le-ltb}
 use lib.Dec.{eqb, ltb}
 use lib.ListN.{length, getD, set, replicate, length-set, List·getD-eq-default}
 use lib.Seq.{getD-set-same, getD-set-other}
-use Rattle.relation.specs.Rel.{Set, Rel, empty, none, single, pair, union, intersection, difference, either, both, minus, inverse, identity, product, from, into, some, image, chain, through, plus, optional, star, diagonal, below, nodes, least, Next}
+use Rattle.relation.specs.Rel.{Set, Rel, empty, none, single, given, pair, union, intersection, difference, either, both, minus, inverse, identity, product, from, into, some, image, chain, through, plus, optional, star, diagonal, below, nodes, least, Next}
 use Rattle.relation.specs.Bits.{bit, edge}
 use Rattle.relation.proofs.ByteLaws.{bit-none, bit-out, on-zero}
 use Rattle.relation.proofs.SetLaws.{or-comm, or-false, or-true, and-false, and-true, Least, least-is}
@@ -59,6 +59,14 @@ rows-keep f e h k w q =
     record {
       long = w .long;
       done = below-more _ k (w .done) (w .rest k (omega arith) ∙ q);
+      rest = λ m g. w .rest m (omega arith);
+    }
+
+pub rows-skip : (f e : Rel) (h : List (List ℕ)) (k n : ℕ) → Rows f e h k → k ≤ n → ((m : ℕ) → k ≤ m → m < n → e m ≡ f m) → Rows f e h n
+rows-skip f e h k n w l q =
+    record {
+      long = w .long;
+      done = λ m g. elim (decLt m k) [ yes p ↦ w .done m p | no p ↦ w .rest m (omega (arith, p)) ∙ q m (omega (arith, p)) g ];
       rest = λ m g. w .rest m (omega arith);
     }
 
@@ -194,16 +202,10 @@ pub through-out : (k : ℕ) (r : Rel) (m : ℕ) → r m ≡ empty → through k 
 unfolding through empty
 through-out k r m p = fun-ext (λ j. ap (λ (s : Set). s j || (s k && r k j)) p)
 
--- x and y are the rows m and k.
-pub through-yes : (k : ℕ) (r : Rel) (m : ℕ) (x y : Set) → x ≡ r m → y ≡ r k → x k ≡ true → union x y ≡ through k r m
-unfolding union through
-through-yes k r m x y p q t =
-    fun-ext (λ j. ap₂ (λ (f g : Set). f j || g j) p q ∙ ap (λ (b : Bool). r m j || (b && r k j)) (sym t ∙ ap (λ (f : Set). f k) p))
-
-pub through-no : (k : ℕ) (r : Rel) (m : ℕ) (x : Set) → x ≡ r m → x k ≡ false → r m ≡ through k r m
-unfolding through
-through-no k r m x p t =
-    fun-ext (λ j. sym (or-false (r m j)) ∙ ap (λ (b : Bool). r m j || (b && r k j)) (sym t ∙ ap (λ (f : Set). f k) p))
+-- x and y are the rows m and k; z is y where k is in x.
+pub through-row : (k : ℕ) (r : Rel) (m : ℕ) (x y : Set) (t : Bool) → x ≡ r m → y ≡ r k → t ≡ x k → union x (given t y) ≡ through k r m
+unfolding union given through
+through-row k r m x y t p q e = fun-ext (λ j. ap (λ (b : Bool). x j || (b && y j)) e ∙ ap₂ (λ (f g : Set). f j || (f k && g j)) p q)
 
 pub from-yes : (s : Set) (r : Rel) (m : ℕ) → s m ≡ true → r m ≡ from s r m
 unfolding from

@@ -9,7 +9,7 @@ use native.Mathlib.Omega.{arith}
 use native.Mathlib.Decide.{ℕ-discrete, decLt}
 use borrow.Author.Tests.{eq-eqb, ne-eqb, lt-ltb, le-ltb}
 use lib.Dec.{eqb, ltb}
-use Rattle.relation.specs.Rel.{Set, Rel, empty, single, union, some, image, least, count, below}
+use Rattle.relation.specs.Rel.{Set, Rel, empty, single, given, union, some, image, least, count, below}
 use Rattle.relation.specs.Ring.{under}
 
 pub or-comm : (a b : Bool) → a || b ≡ b || a
@@ -33,6 +33,15 @@ and-true false = refl
 pub or-true : (x : Bool) → x || true ≡ true
 or-true true = refl
 or-true false = refl
+
+-- A set where a test holds.
+pub given-yes : (b : Bool) (s : Set) → b ≡ true → s ≡ given b s
+unfolding given
+given-yes b s e = fun-ext (λ j. ap (λ (x : Bool). x && s j) (sym e))
+
+pub given-no : (b : Bool) (s : Set) → b ≡ false → empty ≡ given b s
+unfolding given empty
+given-no b s e = fun-ext (λ j. ap (λ (x : Bool). x && s j) (sym e))
 
 -- The least member.
 pub least-at : (n : ℕ) (s : Set) (k : ℕ) → k < n → s k ≡ true → ((m : ℕ) → m < k → s m ≡ false) → least n s ≡ k

@@ -21,6 +21,10 @@ empty j = false
 unfoldable pub single : ℕ → Set
 single k j = eqb k j
 
+-- s where b is true, and else no event.
+unfoldable pub given : Bool → Set → Set
+given b s j = b && s j
+
 unfoldable pub union : Set → Set → Set
 union s t j = s j || t j
 

@@ -107,12 +107,21 @@ pub fn then(a: [[u8; 8]; 64], b: [[u8; 8]; 64]) -> [[u8; 8]; 64]
     ensures { λ r. ⌜ edge r ≡ chain nodes (edge a) (edge b) ⌝ }
 {
     let mut h = a;
+    let mut r = row::none();
     let mut i: usize = 0;
+    let mut j: usize = 0;
     while i < 64 {
         let x = a[i];
-        if row::first(x) < 64 {
-            h[i] = image(x, b);
+        let none = row::none();
+        r = none;
+        j = row::first(x);
+        while j < 64 {
+            let y = b[j];
+            let z = row::or(r, y);
+            r = z;
+            j = row::next(x, j + 1);
         }
+        h[i] = r;
         i += 1;
     }
     h
@@ -254,9 +263,7 @@ pub fn closure(g: [[u8; 8]; 64]) -> [[u8; 8]; 64]
             i = 0;
             while i < 64 {
                 let x = h[i];
-                if row::has(x, k) {
-                    h[i] = row::or(x, y);
-                }
+                h[i] = row::or(x, row::given(row::has(x, k), y));
                 i += 1;
             }
         }

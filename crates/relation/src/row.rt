@@ -2,7 +2,7 @@
 
 ghost use mathlib.Core.Path.{_≡_};
 ghost use Prim.Native.Nat.{_<_, _≤_};
-ghost use Rattle.relation.specs.Rel.{empty, single, union, intersection, difference, least, count, Next};
+ghost use Rattle.relation.specs.Rel.{empty, single, given, union, intersection, difference, least, count, Next};
 ghost use Rattle.relation.specs.Bits.{on, bit};
 ghost use Rattle.relation.specs.Ring.{under};
 
@@ -60,6 +60,16 @@ pub fn without(row: [u8; 8], j: usize) -> [u8; 8]
     let mut r = row;
     r[j >> 3] = r[j >> 3] ^ (r[j >> 3] & (1u8 << (j & 7)));
     r
+}
+
+// The set where b holds, and else no event.
+pub fn given(b: bool, row: [u8; 8]) -> [u8; 8]
+    ensures { λ r. ⌜ bit r ≡ given b (bit row) ⌝ }
+{
+    if b {
+        return row;
+    }
+    none()
 }
 
 // Union.

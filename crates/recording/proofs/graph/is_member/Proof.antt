@@ -1,5 +1,5 @@
 -- `graph::is_member` meets its contract, by cases. Assumes nothing.
-use Rattle.recording.proofs.GraphLaws.{of-recorded, of-initial, of-class, of-mode, of-flagged, of-location}
+use Rattle.recording.proofs.GraphLaws.{of-recorded, of-initial, of-class, of-mode, of-flagged}
 use borrow.Author.Needs.{needs}
 use Rattle.recording.proofs.graph.is_member.Statement.{statement}
 use Rattle.recording.proofs.graph.is_member.Tie as tie
@@ -34,12 +34,6 @@ enum-known-s-3 c = search needs
 is-flagged-requires : tie.Need-is-flagged-requires
 is-flagged-requires c κs = search needs
 
-enum-known-s-4 : tie.Need-enum-known-s-4
-enum-known-s-4 c = search needs
-
-access-at-requires : tie.Need-access-at-requires
-access-at-requires c κs = search needs
-
 returns : tie.Need-returns
 returns c = of-recorded _ _ _ _ (c .before .enum-told .given .1) (c .is-recorded .ensures)
 
@@ -55,9 +49,6 @@ returns-4 c = of-mode _ _ _ _ _ _ (c .before .before .s2 .given .1) (c .of-mode 
 returns-5 : tie.Need-returns-5
 returns-5 c = of-flagged _ _ _ _ _ (c .before .before .s3 .given .1) (c .is-flagged .ensures)
 
-returns-6 : tie.Need-returns-6
-returns-6 c = of-location _ _ _ _ _ (c .before .before .s4 .given .1) (c .access-at .ensures)
-
 pub is-member-spec : {M : Type 1} → statement M
 is-member-spec =
     tie.close
@@ -72,11 +63,8 @@ is-member-spec =
     of-mode-requires
     enum-known-s-3
     is-flagged-requires
-    enum-known-s-4
-    access-at-requires
     returns
     returns-2
     returns-3
     returns-4
-    returns-5
-    returns-6)
+    returns-5)

@@ -1,61 +1,79 @@
--- `graph::same_location` meets its contract, location by location. Assumes nothing.
-use mathlib.Core.Path.{_≡_, ap, _∙_}
+-- `graph::same_location` meets its contract, event by event. Assumes nothing.
+use mathlib.Core.Path.{_≡_}
 use mathlib.Core.Bool.{true}
-use Prim.Native.Nat.{ℕ, _-_, _≤_}
-use Rattle.relation.specs.Bits.{edge}
-use Rattle.recording.specs.Layout.{events, locations, Sized}
-use Rattle.recording.specs.Chains.{each}
-use Rattle.recording.specs.Causes.{eventLegal}
-use Rattle.recording.specs.Sets.{membersOf}
-use Rattle.recording.proofs.GraphLaws.{located, located-none, located-more, located-all}
+use mathlib.Core.Logic.{inl, inr}
+use Prim.Native.Nat.{ℕ, _+_, _-_, _≤_}
 use native.Mathlib.Omega.{arith}
+use Rattle.relation.specs.Rel.{none}
+use Rattle.relation.proofs.GridLaws.{Rows, rows-none-of, rows-set, rows-keep, rows-skip, rows-all}
+use Rattle.models.specs.Recording.{sameLocation}
+use Rattle.recording.specs.Layout.{Sized, events}
+use Rattle.recording.specs.Chains.{each}
+use Rattle.recording.specs.Decode.{decode}
+use Rattle.recording.specs.Causes.{eventLegal}
+use Rattle.recording.specs.Sets.{AccessRows}
+use Rattle.recording.proofs.GraphLaws.{location-row, location-none, location-gap, location-out}
 use borrow.Author.Needs.{needs}
 use Rattle.recording.proofs.graph.same_location.Statement.{statement}
 use Rattle.recording.proofs.graph.same_location.Tie as tie
 
 abbrev Inv-loop : tie.InvT-loop
-Inv-loop file n h₀ l₀ h l = (l ≤ n) × Sized file × (each (events file) (eventLegal file) ≡ true) × (edge h ≡ located file l) × (n ≡ locations file) × (n ≤ 8)
+Inv-loop file n rows h₀ e₀ h e = (e ≤ 64) × Sized file × (each (events file) (eventLegal file) ≡ true) × (n ≡ events file) × AccessRows file rows × Rows (sameLocation (decode file)) none h e
 
 abbrev μ-loop : tie.MeasureT-loop
-μ-loop file n h₀ l₀ h l = n - l
+μ-loop file n rows h₀ e₀ h e = 64 - e
 
-locations-requires : tie.Need-locations-requires Inv-loop μ-loop
-locations-requires c κs = search needs
+events-requires : tie.Need-events-requires Inv-loop μ-loop
+events-requires c κs = search needs
+
+by-location-requires : tie.Need-by-location-requires Inv-loop μ-loop
+by-location-requires c κs = search needs
 
 empty-requires : tie.Need-empty-requires Inv-loop μ-loop
 empty-requires c κs = search needs
 
 loop-holds : tie.Need-loop-holds Inv-loop μ-loop
-loop-holds c = 
-    let pre = c .before .before .before .pre in
-    let n = c .before .locations .ensures in
-    (search needs, pre .0, pre .1, c .empty .ensures ∙ located-none _, n .0, n .1)
+loop-holds c = (let pre = c .before .before .before .before .pre in (search needs, pre .0, pre .1, c .before .before .events .ensures .0, c .before .by-location .ensures, rows-none-of _ _ _ (search needs) (c .empty .ensures)))
 
-members-requires : tie.Need-members-requires Inv-loop μ-loop
-members-requires c κs = c .before .loop .inv .1
+place-of-requires : tie.Need-place-of-requires Inv-loop μ-loop
+place-of-requires c κs = c .before .loop .inv .1
 
-product-requires : tie.Need-product-requires Inv-loop μ-loop
-product-requires c κs = search needs
+mul-h : tie.Need-mul-h Inv-loop μ-loop
+mul-h c = search needs
 
-or-requires : tie.Need-or-requires Inv-loop μ-loop
-or-requires c κs = search needs
+array-copy-out-h : tie.Need-array-copy-out-h Inv-loop μ-loop
+array-copy-out-h c = search needs
 
-add-l : tie.Need-add-l Inv-loop μ-loop
-add-l c = search needs
+mul-h-2 : tie.Need-mul-h-2 Inv-loop μ-loop
+mul-h-2 c = search needs
+
+array-set-from-h : tie.Need-array-set-from-h Inv-loop μ-loop
+array-set-from-h c = search needs
+
+add-e : tie.Need-add-e Inv-loop μ-loop
+add-e c = elim (c .before .if2 .came) [ inl w ↦ rw (w .1) (search needs) | inr w ↦ rw (w .1) (search needs) ]
 
 loop-less : tie.Need-loop-less Inv-loop μ-loop
-loop-less c = search needs
+loop-less c = (let inv = c .before .before .before .before .before .loop .inv in elim (c .before .if2 .came) [ inl w ↦ rw (w .1) (omega (arith, inv .1 .most-events, inv .3, w .0 .taken)) | inr w ↦ rw (w .1) (omega (arith, c .before .before .before .before .loop-test .taken)) ])
 
 loop-again : tie.Need-loop-again Inv-loop μ-loop
-unfolding membersOf
 loop-again c = 
-    let inv = c .before .before .before .before .loop .inv in
-    (search needs, inv .1, inv .2, located-more _ _ _ _ _ _ (inv .3) (c .before .before .members .ensures) (c .before .product .ensures) (c .or .ensures), inv .4, inv .5)
+    let turn = c .before .before .before .before in
+    let inv = turn .before .loop .inv in
+    let at = c .before .before .before .place-of .ensures in
+    let file = c .before .before .before .before .before .before .before .before .before .before .args .file .now in
+    let grown : Rows (sameLocation (decode file)) none (c .before .before .if1 .h) (turn .before .loop .e + 1)
+    = elim (c .before .before .if1 .came) [
+      | inl w ↦ rw (w .2) (rows-set _ _ _ _ _ (inv .5) (turn .loop-test .taken) (location-row _ (inv .1) (inv .2) _ _ at (w .0 .taken) _ (inv .4 .row _ (w .0 .taken))))
+      | inr w ↦ rw (w .1) (rows-keep _ _ _ _ (inv .5) (location-none _ (inv .1) (inv .2) _ _ at (w .0 .left)))
+    ] in
+    elim (c .before .if2 .came) [
+      | inl w ↦ rw (w .1) (search needs, inv .1, inv .2, inv .3, inv .4, rows-skip _ _ _ _ 56 grown (omega (arith, inv .1 .most-events, inv .3, w .0 .taken)) (λ m a b. location-gap _ m (omega (arith, inv .3, w .0 .taken)) b))
+      | inr w ↦ rw (w .1) (search needs, inv .1, inv .2, inv .3, inv .4, grown)
+    ]
 
 returns : tie.Need-returns Inv-loop μ-loop
-returns c = 
-    let inv = c .before .loop .inv in
-    located-all _ (inv .1) (inv .2) _ _ (omega (arith, inv .4, c .loop-test .left)) (inv .3)
+returns c = (let inv = c .before .loop .inv in rows-all _ _ _ _ (c .loop-test .left) (inv .5) (location-out _ (inv .1)))
 
 pub same-location-spec : {M : Type 1} → statement M
 same-location-spec =
@@ -63,13 +81,16 @@ same-location-spec =
     (tie.spec
     Inv-loop
     μ-loop
-    locations-requires
+    events-requires
+    by-location-requires
     empty-requires
     loop-holds
-    members-requires
-    product-requires
-    or-requires
-    add-l
+    place-of-requires
+    mul-h
+    array-copy-out-h
+    mul-h-2
+    array-set-from-h
+    add-e
     loop-less
     loop-again
     returns)

@@ -1,12 +1,12 @@
 -- `grid::closure` meets its contract: one round for each event, row by row. Assumes nothing.
-use mathlib.Core.Path.{_≡_, refl, sym, ap, _∙_}
+use mathlib.Core.Path.{_≡_, refl, ap, _∙_}
 use mathlib.Core.Logic.{inl, inr}
 use Prim.Native.Nat.{ℕ, _-_, _≤_}
 use native.Mathlib.Omega.{arith}
 use lib.ListN.{length}
-use Rattle.relation.specs.Rel.{plus, through, below}
+use Rattle.relation.specs.Rel.{union, plus, through, below}
 use Rattle.relation.specs.Bits.{bit, edge}
-use Rattle.relation.proofs.GridLaws.{Rows, rows-none, rows-set, rows-keep, rows-all, edge-out, through-out, through-yes, through-no, through-none, none-in, plus-none, plus-step}
+use Rattle.relation.proofs.GridLaws.{Rows, rows-none, rows-set, rows-all, edge-out, through-out, through-row, through-none, none-in, plus-none, plus-step}
 use borrow.Author.Needs.{needs}
 use Rattle.relation.proofs.grid.closure.Statement.{statement}
 use Rattle.relation.proofs.grid.closure.Tie as tie
@@ -48,6 +48,9 @@ array-copy-out-x c = search needs
 has-requires : tie.Need-has-requires Inv-loop2 μ-loop2 Inv-loop μ-loop
 has-requires c κs = search needs
 
+given-requires : tie.Need-given-requires Inv-loop2 μ-loop2 Inv-loop μ-loop
+given-requires c κs = search needs
+
 or-requires : tie.Need-or-requires Inv-loop2 μ-loop2 Inv-loop μ-loop
 or-requires c κs = search needs
 
@@ -66,13 +69,9 @@ loop2-less c = search needs
 loop2-again : tie.Need-loop2-again Inv-loop2 μ-loop2 Inv-loop μ-loop
 unfolding edge
 loop2-again c = 
-    let turn = c .before .before .before in
+    let turn = c .before .before .before .before in
     let inv = turn .before .loop2 .inv in
-    let test = c .before .has .ensures in
-    elim (c .if2 .came) [
-      | inl w ↦ rw (w .2) (search needs, rows-set _ _ _ _ _ (inv .1) (turn .loop2-test .taken) (w .1 .ensures ∙ through-yes _ _ _ _ _ (inv .1 .rest _ (omega arith)) (inv .3) (sym test ∙ w .0 .taken)), inv .2, inv .3)
-      | inr w ↦ rw (w .1) (search needs, rows-keep _ _ _ _ (inv .1) (through-no _ _ _ _ (inv .1 .rest _ (omega arith)) (sym test ∙ w .0 .left)), inv .2, inv .3)
-    ]
+    (search needs, rows-set _ _ _ _ _ (inv .1) (turn .loop2-test .taken) (c .or .ensures ∙ ap (union _) (c .before .given .ensures) ∙ through-row _ _ _ _ _ _ (inv .1 .rest _ (omega arith)) (inv .3) (c .before .before .has .ensures)), inv .2, inv .3)
 
 add-k : tie.Need-add-k Inv-loop2 μ-loop2 Inv-loop μ-loop
 add-k c = search needs
@@ -82,7 +81,7 @@ loop-less c = search needs
 
 loop-again : tie.Need-loop-again Inv-loop2 μ-loop2 Inv-loop μ-loop
 unfolding edge
-loop-again c =
+loop-again c = 
     let turn = c .before .before .before in
     let inv = turn .before .loop .inv in
     elim (c .if1 .came) [
@@ -109,6 +108,7 @@ closure-spec =
     mul-x
     array-copy-out-x
     has-requires
+    given-requires
     or-requires
     mul-h
     array-set-from-h

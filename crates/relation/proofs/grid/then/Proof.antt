@@ -1,59 +1,90 @@
 -- `grid::then` meets its contract, row by row. Assumes nothing.
 use mathlib.Core.Path.{_≡_}
-use mathlib.Core.Logic.{inl, inr}
 use Prim.Native.Nat.{ℕ, _-_, _≤_}
+use native.Mathlib.Omega.{arith}
 use lib.ListN.{length}
 use Rattle.relation.specs.Rel.{chain, nodes}
-use Rattle.relation.specs.Bits.{edge}
-use Rattle.relation.proofs.GridLaws.{Rows, rows-none, rows-set, rows-keep, rows-all, edge-out, image-out, none-in, image-kept}
+use Rattle.relation.specs.Bits.{bit, edge}
+use Rattle.relation.proofs.GridLaws.{Rows, rows-none, rows-set, rows-all, edge-out, image-out, Reached, reached-first, reached-next, reached-all}
 use borrow.Author.Needs.{needs}
 use Rattle.relation.proofs.grid.then.Statement.{statement}
 use Rattle.relation.proofs.grid.then.Tie as tie
 
+abbrev Inv-loop2 : tie.InvT-loop2
+Inv-loop2 a b h r₀ i j₀ x r j = Reached (bit x) (edge b) (bit r) j
+
+abbrev μ-loop2 : tie.MeasureT-loop2
+μ-loop2 a b h r₀ i j₀ x r j = 64 - j
+
 abbrev Inv-loop : tie.InvT-loop
-Inv-loop b a h₀ i₀ h i = (i ≤ 64) × Rows (chain nodes (edge a) (edge b)) (edge a) h i × (length a ≡ 64)
+Inv-loop a b h₀ i₀ j₀ h i j = (i ≤ 64) × Rows (chain nodes (edge a) (edge b)) (edge a) h i × (length a ≡ 64)
 
 abbrev μ-loop : tie.MeasureT-loop
-μ-loop b a h₀ i₀ h i = 64 - i
+μ-loop a b h₀ i₀ j₀ h i j = 64 - i
 
-loop-holds : tie.Need-loop-holds Inv-loop μ-loop
+none-requires : tie.Need-none-requires Inv-loop2 μ-loop2 Inv-loop μ-loop
+none-requires c κs = search needs
+
+loop-holds : tie.Need-loop-holds Inv-loop2 μ-loop2 Inv-loop μ-loop
 loop-holds c = (search needs, rows-none _ _ (search needs), search needs)
 
-mul-x : tie.Need-mul-x Inv-loop μ-loop
+mul-x : tie.Need-mul-x Inv-loop2 μ-loop2 Inv-loop μ-loop
 mul-x c = search needs
 
-array-copy-out-x : tie.Need-array-copy-out-x Inv-loop μ-loop
+array-copy-out-x : tie.Need-array-copy-out-x Inv-loop2 μ-loop2 Inv-loop μ-loop
 array-copy-out-x c = search needs
 
-first-requires : tie.Need-first-requires Inv-loop μ-loop
+none-requires-2 : tie.Need-none-requires-2 Inv-loop2 μ-loop2 Inv-loop μ-loop
+none-requires-2 c κs = search needs
+
+first-requires : tie.Need-first-requires Inv-loop2 μ-loop2 Inv-loop μ-loop
 first-requires c κs = search needs
 
-image-requires : tie.Need-image-requires Inv-loop μ-loop
-image-requires c κs = search needs
+loop2-holds : tie.Need-loop2-holds Inv-loop2 μ-loop2 Inv-loop μ-loop
+loop2-holds c = reached-first _ _ _ _ (c .before .none2 .ensures) (c .first .ensures)
 
-mul-h : tie.Need-mul-h Inv-loop μ-loop
+mul-y : tie.Need-mul-y Inv-loop2 μ-loop2 Inv-loop μ-loop
+mul-y c = search needs
+
+array-copy-out-y : tie.Need-array-copy-out-y Inv-loop2 μ-loop2 Inv-loop μ-loop
+array-copy-out-y c = search needs
+
+or-requires : tie.Need-or-requires Inv-loop2 μ-loop2 Inv-loop μ-loop
+or-requires c κs = search needs
+
+add-next : tie.Need-add-next Inv-loop2 μ-loop2 Inv-loop μ-loop
+add-next c = search needs
+
+next-requires : tie.Need-next-requires Inv-loop2 μ-loop2 Inv-loop μ-loop
+next-requires c κs = search needs
+
+loop2-less : tie.Need-loop2-less Inv-loop2 μ-loop2 Inv-loop μ-loop
+loop2-less c = (let turn = c .before .before .before in omega (arith, c .next .ensures .low, turn .loop2-test .taken))
+
+loop2-again : tie.Need-loop2-again Inv-loop2 μ-loop2 Inv-loop μ-loop
+unfolding edge
+loop2-again c = (let turn = c .before .before .before in reached-next _ _ _ _ (turn .before .loop2 .inv) (turn .loop2-test .taken) _ _ (c .before .or .ensures) (c .next .ensures))
+
+mul-h : tie.Need-mul-h Inv-loop2 μ-loop2 Inv-loop μ-loop
 mul-h c = search needs
 
-array-set-from-h : tie.Need-array-set-from-h Inv-loop μ-loop
+array-set-from-h : tie.Need-array-set-from-h Inv-loop2 μ-loop2 Inv-loop μ-loop
 array-set-from-h c = search needs
 
-add-i : tie.Need-add-i Inv-loop μ-loop
+add-i : tie.Need-add-i Inv-loop2 μ-loop2 Inv-loop μ-loop
 add-i c = search needs
 
-loop-less : tie.Need-loop-less Inv-loop μ-loop
+loop-less : tie.Need-loop-less Inv-loop2 μ-loop2 Inv-loop μ-loop
 loop-less c = search needs
 
-loop-again : tie.Need-loop-again Inv-loop μ-loop
+loop-again : tie.Need-loop-again Inv-loop2 μ-loop2 Inv-loop μ-loop
 unfolding edge chain
-loop-again c = 
-    let turn = c .before .before .before in
+loop-again c =
+    let turn = c .before .before .before .before .before in
     let inv = turn .before .loop .inv in
-    elim (c .if1 .came) [
-      | inl w ↦ rw (w .2) (search needs, rows-set _ _ _ _ _ (inv .1) (turn .loop-test .taken) (w .1 .ensures), inv .2)
-      | inr w ↦ rw (w .1) (search needs, rows-keep _ _ _ _ (inv .1) (image-kept _ _ (none-in _ _ (c .before .first .ensures) (w .0 .left))), inv .2)
-    ]
+    (search needs, rows-set _ _ _ _ _ (inv .1) (turn .loop-test .taken) (reached-all _ _ _ _ (c .before .loop2 .inv) (c .loop2-test .left)), inv .2)
 
-returns : tie.Need-returns Inv-loop μ-loop
+returns : tie.Need-returns Inv-loop2 μ-loop2 Inv-loop μ-loop
 unfolding chain
 returns c = rows-all _ _ _ _ (c .loop-test .left) (c .before .loop .inv .1) (λ m h. image-out _ _ _ (edge-out _ (c .before .loop .inv .2) m h))
 
@@ -61,13 +92,24 @@ pub then-spec : {M : Type 1} → statement M
 then-spec =
     tie.close
     (tie.spec
+    Inv-loop2
+    μ-loop2
     Inv-loop
     μ-loop
+    none-requires
     loop-holds
     mul-x
     array-copy-out-x
+    none-requires-2
     first-requires
-    image-requires
+    loop2-holds
+    mul-y
+    array-copy-out-y
+    or-requires
+    add-next
+    next-requires
+    loop2-less
+    loop2-again
     mul-h
     array-set-from-h
     add-i

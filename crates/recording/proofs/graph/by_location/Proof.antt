@@ -1,0 +1,84 @@
+-- `graph::by_location` meets its contract, event by event. Assumes nothing.
+use mathlib.Core.Path.{_≡_}
+use mathlib.Core.Logic.{inl, inr}
+use Prim.Native.Nat.{ℕ, _+_, _-_, _≤_}
+use native.Mathlib.Omega.{arith}
+use Rattle.recording.specs.Layout.{Sized, events}
+use Rattle.recording.proofs.GraphLaws.{Locating, locating-none, locating-with, locating-keep, locating-gap, locating-all}
+use borrow.Author.Needs.{needs}
+use Rattle.recording.proofs.graph.by_location.Statement.{statement}
+use Rattle.recording.proofs.graph.by_location.Tie as tie
+
+abbrev Inv-loop : tie.InvT-loop
+Inv-loop file n h₀ e₀ h e = (e ≤ 64) × Sized file × (n ≡ events file) × Locating file e h
+
+abbrev μ-loop : tie.MeasureT-loop
+μ-loop file n h₀ e₀ h e = 64 - e
+
+events-requires : tie.Need-events-requires Inv-loop μ-loop
+events-requires c κs = search needs
+
+loop-holds : tie.Need-loop-holds Inv-loop μ-loop
+loop-holds c = (search needs, c .before .before .pre, c .events .ensures .0, locating-none _)
+
+place-of-requires : tie.Need-place-of-requires Inv-loop μ-loop
+place-of-requires c κs = c .before .loop .inv .1
+
+mul-x : tie.Need-mul-x Inv-loop μ-loop
+mul-x c = search needs
+
+array-copy-out-x : tie.Need-array-copy-out-x Inv-loop μ-loop
+array-copy-out-x c = search needs
+
+with-requires : tie.Need-with-requires Inv-loop μ-loop
+with-requires c κs = search needs
+
+mul-h : tie.Need-mul-h Inv-loop μ-loop
+mul-h c = search needs
+
+array-set-from-h : tie.Need-array-set-from-h Inv-loop μ-loop
+array-set-from-h c = search needs
+
+add-e : tie.Need-add-e Inv-loop μ-loop
+add-e c = elim (c .before .if2 .came) [ inl w ↦ rw (w .1) (search needs) | inr w ↦ rw (w .1) (search needs) ]
+
+loop-less : tie.Need-loop-less Inv-loop μ-loop
+loop-less c = (let inv = c .before .before .before .before .before .loop .inv in elim (c .before .if2 .came) [ inl w ↦ rw (w .1) (omega (arith, inv .1 .most-events, inv .2, w .0 .taken)) | inr w ↦ rw (w .1) (omega (arith, c .before .before .before .before .loop-test .taken)) ])
+
+loop-again : tie.Need-loop-again Inv-loop μ-loop
+loop-again c =
+    let turn = c .before .before .before .before in
+    let inv = turn .before .loop .inv in
+    let at = c .before .before .before .place-of .ensures in
+    let file = c .before .before .before .before .before .before .before .before .args .file .now in
+    let grown : Locating file (turn .before .loop .e + 1) (c .before .before .if1 .h)
+    = elim (c .before .before .if1 .came) [
+      | inl w ↦ rw (w .3) (locating-with _ _ _ (inv .3) _ at _ (w .0 .taken) (w .2 .ensures))
+      | inr w ↦ rw (w .1) (locating-keep _ _ _ (inv .3) _ at (w .0 .left))
+    ] in
+    elim (c .before .if2 .came) [
+      | inl w ↦ rw (w .1) (search needs, inv .1, inv .2, locating-gap _ _ _ grown (omega (arith, inv .2, w .0 .taken)) (omega (arith, inv .1 .most-events, inv .2, w .0 .taken)))
+      | inr w ↦ rw (w .1) (search needs, inv .1, inv .2, grown)
+    ]
+
+returns : tie.Need-returns Inv-loop μ-loop
+returns c = (let inv = c .before .loop .inv in locating-all _ (inv .1) _ _ (c .loop-test .left) (inv .3))
+
+pub by-location-spec : {M : Type 1} → statement M
+by-location-spec =
+    tie.close
+    (tie.spec
+    Inv-loop
+    μ-loop
+    events-requires
+    loop-holds
+    place-of-requires
+    mul-x
+    array-copy-out-x
+    with-requires
+    mul-h
+    array-set-from-h
+    add-e
+    loop-less
+    loop-again
+    returns)
