@@ -4,8 +4,11 @@ use crate::judge;
 use recording::causes;
 use verdict::Answer;
 use verdict::Verdict;
+ghost use mathlib.Core.Path.{_≡_};
 ghost use Rattle.models.specs.Rules.{ARMv8};
-ghost use Rattle.execution.specs.OnFile.{OnFile};
+ghost use Rattle.recording.specs.Decode.{decode};
+ghost use Rattle.recording.specs.Load.{causeFor};
+ghost use Rattle.execution.specs.OnFile.{OnRecording, OnFile};
 ghost use Rattle.armv8.specs.Judged.{Judged};
 
 // The verdict on a chip recording, and what is shown of it: refused with 1 to 10 as loading does, with 11 where it is of the other kind.
@@ -20,5 +23,13 @@ pub fn verdict(file: &[u8]) -> Verdict
             len: 0,
         };
     }
+    loaded(file)
+}
+
+// The verdict on a chip recording that loads, and what is shown of it.
+pub fn loaded(file: &[u8]) -> Verdict
+    requires { ⌜ causeFor 2 (now file) ≡ 0 ⌝ }
+    ensures { λ r. ⌜ OnRecording ARMv8 Judged (decode (now (file .entry))) r ⌝ }
+{
     judge(execution::sets(file), execution::relations(file))
 }

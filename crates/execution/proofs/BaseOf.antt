@@ -9,17 +9,17 @@ use Rattle.relation.specs.Bits.{edge}
 use Rattle.models.specs.Recording.{Recording, SetName}
 use Rattle.models.specs.Graph.{Base, base}
 use Rattle.recording.specs.Decode.{decode}
+use Rattle.recording.specs.Causes.{refusal}
 use Rattle.recording.specs.Load.{causeFor}
 use Rattle.recording.specs.Sets.{LinkRows}
 use Rattle.models.specs.Rules.{Model, verdict}
 use Rattle.models.proofs.Agree.{recording-verdict}
 use Rattle.recording.proofs.Loaded.{loaded-within}
-use Rattle.recording.proofs.CauseLaws.{cause-goes-on}
 use Rattle.verdict.specs.Answer.{refuses, answers}
 use Rattle.verdict.specs.declared.Verdict.{Verdict}
 use Rattle.verdict.specs.Base.{baseOf}
 use Rattle.execution.specs.Arrays.{SetsOf, RelationsOf}
-use Rattle.execution.specs.OnFile.{OnFile}
+use Rattle.execution.specs.OnFile.{OnRecording, OnFile}
 
 pub base-of : (r : Recording ℕ) (sets : List (List ℕ)) (relations : List (List (List ℕ))) → SetsOf r sets → RelationsOf (base nodes r) relations
     → baseOf sets relations ≡ base nodes r
@@ -46,26 +46,32 @@ pub links-of : (f : List ℕ) (rows : List (List (List ℕ))) → LinkRows f row
 unfolding inverse
 links-of f rows w t h k g p = p ∙ ap inverse (w .grid t h k)
 
--- A verdict over the arrays of a file is one on the file.
-module _ (k : ℕ) (M : Model) (Judged : Base → Verdict → Type 0) (f : List ℕ) (v : Verdict) (n : ℕ) (cause : n ≡ causeFor k f) where
-  pub on-refused : (n ≡ 0 → ⊥) → v .answer ≡ refuses n → v .len ≡ 0 → OnFile k M Judged f v
-  on-refused d a l =
-      record {
-        refused = λ m e. (a ∙ ap refuses (cause ∙ e), l);
-        judged = λ e. absurd (d (cause ∙ e));
-      }
-
-  pub on-judged : n ≡ 0 → ((B : Base) → Judged B v → v .answer ≡ answers (verdict nodes B M)) → (sets : List (List ℕ)) (relations : List (List (List ℕ)))
-      → SetsOf (decode f) sets → RelationsOf (base nodes (decode f)) relations → Judged (baseOf sets relations) v → OnFile k M Judged f v
-  on-judged z says sets relations s t j =
+-- A verdict over the arrays of a file that loads is one on its recording.
+module _ (M : Model) (Judged : Base → Verdict → Type 0) (f : List ℕ) (v : Verdict) where
+  pub on-recording : refusal f ≡ 0 → ((B : Base) → Judged B v → v .answer ≡ answers (verdict nodes B M)) → (sets : List (List ℕ))
+      (relations : List (List (List ℕ))) → SetsOf (decode f) sets → RelationsOf (base nodes (decode f)) relations → Judged (baseOf sets relations) v
+      → OnRecording M Judged (decode f) v
+  on-recording loads says sets relations s t j =
       let shown : Judged (base nodes (decode f)) v = subst (λ (B : Base). Judged B v) (base-of (decode f) sets relations s t) j in
       record {
-        refused = λ m e. absurd (let q : suc m ≡ 0 = sym e ∙ sym cause ∙ z in omega arith);
-        judged = λ e.
-            record {
-              number = verdict nodes (base nodes (decode f)) M;
-              rules = recording-verdict nodes (decode f) (loaded-within f (cause-goes-on k f e .0)) M;
-              answer = says (base nodes (decode f)) shown;
-              shown = shown;
-            };
+        number = verdict nodes (base nodes (decode f)) M;
+        rules = recording-verdict nodes (decode f) (loaded-within f loads) M;
+        answer = says (base nodes (decode f)) shown;
+        shown = shown;
       }
+
+  -- A verdict on a file is the number of its refusal, or one on its recording.
+  module _ (k n : ℕ) (cause : n ≡ causeFor k f) where
+    pub on-refused : (n ≡ 0 → ⊥) → v .answer ≡ refuses n → v .len ≡ 0 → OnFile k M Judged f v
+    on-refused d a l =
+        record {
+          refused = λ m e. (a ∙ ap refuses (cause ∙ e), l);
+          judged = λ e. absurd (d (cause ∙ e));
+        }
+
+    pub on-loaded : n ≡ 0 → OnRecording M Judged (decode f) v → OnFile k M Judged f v
+    on-loaded z on =
+        record {
+          refused = λ m e. absurd (let q : suc m ≡ 0 = sym e ∙ sym cause ∙ z in omega arith);
+          judged = λ e. on;
+        }

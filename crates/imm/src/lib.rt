@@ -19,22 +19,35 @@ ghost use Rattle.imm.specs.Judged.{Judged};
 pub fn judge(sets: Sets, relations: Relations) -> Verdict
     ensures { λ r. ⌜ Judged (baseOf sets relations) r ⌝ }
 {
+    // Rules 1 and 2.
+    let incomplete = shown::completeness(sets, relations);
+    if incomplete.len != 0 {
+        return incomplete;
+    }
     let po = relations[base::PO];
     let rf = relations[base::RF];
     let co = relations[base::CO];
     let poloc = grid::and(po, relations[base::LOC]);
     let rfe = grid::minus(rf, po);
     let rfi = grid::and(rf, po);
-    let coe = grid::minus(co, po);
     let fr = rules::fr(rf, co);
     // Rule 3 forbids hb ; eco? from an event to itself. Its ring is of steps of hb, and may be closed by eco between two events.
     let steps = hb::steps(sets, relations, poloc, rfe, rfi);
     let hb = grid::closure(steps);
     let eco = hb::eco(sets[base::EVENTS], rf, co, fr);
-    let incoherent = grid::diagonal(grid::then(hb, grid::optional(eco, sets[base::EVENTS])));
+    let returning = grid::diagonal(grid::then(hb, grid::optional(eco, sets[base::EVENTS])));
     let closing = grid::or(steps, grid::minus(eco, grid::identity(row::all())));
-    // Rules 4 and 5.
-    let pairs = rules::broken_pairs(relations[base::RMW], grid::minus(fr, po), coe);
+    let incoherent = shown::coherence(returning, steps, closing);
+    if incoherent.len != 0 {
+        return incoherent;
+    }
+    // Rule 4.
+    let coe = grid::minus(co, po);
+    let broken = shown::atomicity(relations[base::RMW], grid::minus(fr, po), coe);
+    if broken.len != 0 {
+        return broken;
+    }
+    // Rule 5.
     let ar = ar::ar(sets, relations, poloc, rfe, rfi, coe, hb, eco);
-    shown::decide(sets, relations, incoherent, steps, closing, pairs, ar)
+    shown::acyclicity(ar, sets[base::EVENTS])
 }

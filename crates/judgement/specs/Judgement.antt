@@ -1,4 +1,4 @@
--- What the judge says of a file as a whole (01, "What is shown"): the verdict on a translation, and the lines that are printed. Assumes nothing.
+-- What the judge says of a file as a whole (01, "What is shown"): the verdicts, and the lines that are printed. Assumes nothing.
 use mathlib.Core.Path.{_≡_}
 use mathlib.Core.List.{List, [], _++_}
 use Prim.Native.Nat.{ℕ, suc}
@@ -6,7 +6,6 @@ use Rattle.models.specs.Rules.{IMM, ARMv8}
 use Rattle.recording.specs.Layout.{kind}
 use Rattle.recording.specs.Decode.{decode}
 use Rattle.recording.specs.Causes.{refusal}
-use Rattle.recording.specs.Load.{causeFor}
 use Rattle.verdict.specs.declared.Verdict.{Verdict}
 use Rattle.verdict.specs.declared.Answer.the-variants.{Allowed}
 use Rattle.verdict.specs.Answer.{refuses}
@@ -17,10 +16,12 @@ use Rattle.armv8.specs.Judged as armv8
 use Rattle.translation.specs.Answer.{translation}
 use Rattle.lines.specs.Lines.{source, chip, lineOf}
 
--- v is the ARMv8 verdict on the translation of the source file f; it is refused as the translation is.
-pub record OnTranslation (f : List ℕ) (v : Verdict) : Type 0 where
-  pub refused : (n : ℕ) → causeFor 1 f ≡ suc n → (v .answer ≡ refuses (suc n)) × (v .len ≡ 0)
-  pub judged : causeFor 1 f ≡ 0 → OnRecording ARMv8 armv8.Judged (decode (translation f)) v
+-- v is the IMM verdict, or the ARMv8 verdict, on the recording of a file that loads.
+abbrev pub OnSource : List ℕ → Verdict → Type 0
+OnSource f v = OnRecording IMM imm.Judged (decode f) v
+
+abbrev pub OnChip : List ℕ → Verdict → Type 0
+OnChip f v = OnRecording ARMv8 armv8.Judged (decode f) v
 
 -- The line of a verdict.
 abbrev pub lineFor : List ℕ → Verdict → List ℕ
@@ -30,15 +31,15 @@ lineFor word v = lineOf word (v .answer) (events v)
 pub record SourceLines (f text : List ℕ) : Type 0 where
   pub on-source : Verdict
   pub on-chip : Verdict
-  pub judged : OnRecording IMM imm.Judged (decode f) on-source
-  pub judged-chip : OnRecording ARMv8 armv8.Judged (decode (translation f)) on-chip
+  pub judged : OnSource f on-source
+  pub judged-chip : OnChip (translation f) on-chip
   pub sound : on-chip .answer ≡ Allowed → on-source .answer ≡ Allowed
   pub prints : text ≡ lineFor source on-source ++ lineFor chip on-chip
 
 -- "kind 2 a chip line"
 pub record ChipLine (f text : List ℕ) : Type 0 where
   pub on-chip : Verdict
-  pub judged-chip : OnRecording ARMv8 armv8.Judged (decode f) on-chip
+  pub judged-chip : OnChip f on-chip
   pub prints : text ≡ lineFor chip on-chip
 
 -- The text is what the judge prints of the file f. Which ring is shown is free; all else is fixed. A refusal's line has no model's word.

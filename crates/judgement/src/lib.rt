@@ -1,6 +1,7 @@
 // The judgement of a file as a whole: the verdict on its translation, and the lines that the judge prints.
 
 use lines::Text;
+use recording::Load;
 use recording::causes;
 use translation::Translation;
 use verdict::Answer;
@@ -8,13 +9,12 @@ use verdict::Verdict;
 ghost use mathlib.Core.Path.{_≡_};
 ghost use mathlib.Core.List.{_++_};
 ghost use Prim.Native.Nat.{_≤_};
-ghost use Rattle.models.specs.Rules.{IMM};
+ghost use Rattle.recording.specs.Load.{causeFor};
 ghost use Rattle.verdict.specs.Answer.{refuses};
 ghost use Rattle.verdict.specs.declared.Answer.the-variants.{Allowed};
-ghost use Rattle.execution.specs.OnFile.{OnFile};
-ghost use Rattle.imm.specs.Judged.{Judged};
+ghost use Rattle.translation.specs.Answer.{translation};
 ghost use Rattle.lines.specs.Put.{bytes};
-ghost use Rattle.judgement.specs.Judgement.{OnTranslation, Prints};
+ghost use Rattle.judgement.specs.Judgement.{OnSource, OnChip, Prints};
 
 // The verdicts on a source file and on its translation.
 pub struct Verdicts {
@@ -39,25 +39,27 @@ fn refused(k: u8) -> Verdict
     }
 }
 
-// The verdict on the translation of a source file, and what is shown of it. A translation has at most 1320 bytes.
+// The verdict on the translation of a source file that loads, and what is shown of it. A translation has at most 1320 bytes, and loads.
 pub fn chip(file: &[u8]) -> Verdict
-    ensures { λ r. ⌜ OnTranslation (now (file .entry)) r ⌝ }
+    requires { ⌜ causeFor 1 (now file) ≡ 0 ⌝ }
+    ensures { λ r. ⌜ OnChip (translation (now (file .entry))) r ⌝ }
 {
     let mut bytes = [0u8; 1320];
-    match translation::translate(file, &mut bytes) {
+    match translation::written(file, &mut bytes) {
         Translation::Refused(k) => refused(k),
-        Translation::Written(n) => armv8::file::verdict(&bytes[..n]),
+        Translation::Written(n) => armv8::file::loaded(&bytes[..n]),
     }
 }
 
-// The verdicts on a source file and on its translation. Where the translation is allowed, so is the source (demand 3).
+// The verdicts on a source file that loads and on its translation. Where the translation is allowed, so is the source (demand 3).
 pub fn both(file: &[u8]) -> Verdicts
-    ensures source { λ r. ⌜ OnFile 1 IMM Judged (now (file .entry)) (r .source) ⌝ }
-    ensures chip { λ r. ⌜ OnTranslation (now (file .entry)) (r .chip) ⌝ }
+    requires { ⌜ causeFor 1 (now file) ≡ 0 ⌝ }
+    ensures source { λ r. ⌜ OnSource (now (file .entry)) (r .source) ⌝ }
+    ensures chip { λ r. ⌜ OnChip (translation (now (file .entry))) (r .chip) ⌝ }
     ensures sound { λ r. ⌜ (r .chip .answer ≡ Allowed → r .source .answer ≡ Allowed) ⌝ }
 {
     Verdicts {
-        source: imm::file::verdict(file),
+        source: imm::file::loaded(file),
         chip: chip(file),
     }
 }
@@ -82,15 +84,16 @@ pub fn printed(file: &[u8]) -> Lines
     ensures prints { λ r. ⌜ Prints (now (file .entry)) (bytes (r .first) ++ bytes (r .second)) ⌝ }
     ensures bounded { λ r. ⌜ (r .first .len ≤ 320) × (r .second .len ≤ 320) ⌝ }
 {
-    let k = causes::cause(file, 1);
-    if k == 0 {
+    let answer = causes::load(file);
+    let Load::Loaded(h) = answer else {
+        return single(lines::line(true, refused(causes::number(answer))));
+    };
+    let kind = h.kind;
+    if kind == 1 {
         let verdicts = both(file);
         let first = lines::line(false, verdicts.source);
         let second = lines::line(true, verdicts.chip);
         return Lines { first, second };
     }
-    if k == 11 {
-        return single(lines::line(true, armv8::file::verdict(file)));
-    }
-    single(lines::line(true, refused(k)))
+    single(lines::line(true, armv8::file::loaded(file)))
 }

@@ -25,8 +25,8 @@ use Rattle.translation.proofs.OutputLaws.{placed-placed, length-placed}
 
 module _ (f : List ℕ) where
   -- Where no cause of loading applies and the kind is 1.
-  pub source-of : (k : ℕ) → k ≡ causeFor 1 f → k ≡ 0 → Source f
-  source-of k p q = let w = cause-goes-on 1 f (sym p ∙ q) in record { loads = w .0; source = w .1 }
+  pub source-of : causeFor 1 f ≡ 0 → Source f
+  source-of p = let w = cause-goes-on 1 f p in record { loads = w .0; source = w .1 }
 
   -- Refused: the number, and the output as it was.
   pub record Answers (out : List ℕ) (r : Translation) (after : List ℕ) : Type 0 where
@@ -57,10 +57,10 @@ module _ (f : List ℕ) where
       let c = chip f in
       omega (arith, encode-length c, p, q ∙ ap (λ (x : ℕ). linksUpTo c x) p)
 
-  pub refused-short : (k n m : ℕ) (out : List ℕ) → k ≡ causeFor 1 f → k ≡ 0 → n ≡ newEvents (contents f) → m ≡ linksUpTo (chip f) n
+  pub refused-short : (n m : ℕ) (out : List ℕ) → causeFor 1 f ≡ 0 → n ≡ newEvents (contents f) → m ≡ linksUpTo (chip f) n
       → length out < 8 + 8 * n + 4 * m → Answers out (Refused 12) out
-  refused-short k n m out p q u v h =
-      refused-by 11 out (cause-late (length out) (sym p ∙ q) ∙ ap (λ (b : Bool). elim b as (λ _. ℕ) [ true ↦ 12 | false ↦ 0 ]) (lt-ltb (length out) (length (translation f)) (omega (arith, measured n m u v))))
+  refused-short n m out p u v h =
+      refused-by 11 out (cause-late (length out) p ∙ ap (λ (b : Bool). elim b as (λ _. ℕ) [ true ↦ 12 | false ↦ 0 ]) (lt-ltb (length out) (length (translation f)) (omega (arith, measured n m u v))))
 
   written-by : (out : List ℕ) (size : ℕ) → cause f (length out) ≡ 0 → size ≡ length (translation f) → Answers out (Written size) (translation f ++ drop (length (translation f)) out)
   unfolding translationOf answer outputOf filled
@@ -89,7 +89,7 @@ header-length f out one n m room first =
 pub events-room : (f out one : List ℕ) (n m : ℕ) → 8 + 8 * n + 4 * m ≤ length out → one ≡ placed out 0 (header (chip f)) → 8 + 8 * n ≤ length one
 events-room f out one n m room first = omega (arith, header-length f out one n m room first)
 
-module _ (f : List ℕ) (out one two part : List ℕ) (k n m : ℕ) (p : k ≡ causeFor 1 f) (q : k ≡ 0) (u : n ≡ newEvents (contents f))
+module _ (f : List ℕ) (out one two part : List ℕ) (n m : ℕ) (p : causeFor 1 f ≡ 0) (u : n ≡ newEvents (contents f))
     (v : m ≡ linksUpTo (chip f) n) (room : 8 + 8 * n + 4 * m ≤ length out)
     (first : one ≡ placed out 0 (header (chip f))) (second : two ≡ placed one 8 (eventRecords (chip f) (suc n))) where
   -- The output stays as long as it was.
@@ -124,7 +124,7 @@ module _ (f : List ℕ) (out one two part : List ℕ) (k n m : ℕ) (p : k ≡ c
 
   fits : cause f (length out) ≡ 0
   fits =
-      cause-late f (length out) (sym p ∙ q)
+      cause-late f (length out) p
       ∙ ap (λ (b : Bool). elim b as (λ _. ℕ) [ true ↦ 12 | false ↦ 0 ]) (le-ltb (length out) (length (translation f)) (omega (arith, measured f n m u v)))
 
   pub all-written : part ≡ placed (take (length two - (8 + 8 * n)) (drop (8 + 8 * n) two)) 0 (linkRecords (chip f) (512 * suc n))

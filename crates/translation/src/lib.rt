@@ -8,6 +8,7 @@ pub mod write;
 use recording::causes;
 ghost use mathlib.Core.Path.{_≡_};
 ghost use lib.ListN.{length};
+ghost use Rattle.recording.specs.Load.{causeFor};
 ghost use Rattle.translation.specs.Answer.{translationOf, outputOf};
 
 // What a call answers: the number of the cause that refused it, or the length written.
@@ -26,6 +27,15 @@ pub fn translate(file: &[u8], out: &mut [u8]) -> Translation
     if k != 0 {
         return Translation::Refused(k);
     }
+    written(file, out)
+}
+
+// The same of a source file that loads: refused with 12 where the output is shorter than the translation, else written.
+pub fn written(file: &[u8], out: &mut [u8]) -> Translation
+    requires { ⌜ causeFor 1 (now file) ≡ 0 ⌝ }
+    ensures answer { λ r. ⌜ r ≡ translationOf (now (file .entry)) (length (now (out .entry))) ⌝ }
+    ensures output { λ _. ⌜ now (out .exit) ≡ outputOf (now (file .entry)) (now (out .entry)) ⌝ }
+{
     let ctrl = link::ctrl(file);
     let n = event::new_events(file);
     let m = link::count_links(file, ctrl, n);

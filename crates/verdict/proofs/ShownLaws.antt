@@ -1,22 +1,25 @@
--- Laws of the last stage: what the tries of the rules, in order, say of the verdict. Assumes nothing.
-use mathlib.Core.Path.{_≡_, refl, sym, ap, ap₂, subst, _∙_}
+-- Laws of the tries of the rules, in order: what they say of the verdict. Assumes nothing.
+use mathlib.Core.Path.{_≡_, refl, sym, ap, subst, _∙_}
 use mathlib.Core.Bool.{Bool, true, false, false≢true}
 use mathlib.Core.List.{List, [], _∷_}
-use Prim.Native.Nat.{ℕ, zero, _<_, _≤_}
+use Prim.Native.Nat.{ℕ, zero, suc, _+_, _<_, _≤_}
 use native.Mathlib.Omega.{arith}
 use native.Mathlib.Decide.{decLt}
-use lib.ListN.{length}
+use native.Mathlib.Nat.{zero-add}
+use lib.ListN.{length, take}
 use Rattle.relation.specs.Rel.{Set, Rel, some, least, diagonal, plus, nodes}
 use Rattle.relation.specs.Ring.{Ring, RingOrNone, closed}
 use Rattle.relation.specs.Order.{order}
 use Rattle.relation.proofs.SetLaws.{least-is}
 use Rattle.relation.proofs.Meaning.{some-sound}
+use Rattle.relation.proofs.Walks.{Inside}
+use Rattle.relation.proofs.RingMeaning.{plus-closed}
 use Rattle.models.specs.Graph.{Base}
 use Rattle.models.specs.Term.{eval}
 use Rattle.models.specs.Rules.{Model, broken-pair, first, anywhere, unread, unordered, failures, verdict}
 use Rattle.verdict.specs.declared.Verdict.{Verdict}
 use Rattle.verdict.specs.Answer.{answers}
-use Rattle.verdict.specs.Shown.{firstOf, secondOf, events, Shown, FirstPair, Says, Computed}
+use Rattle.verdict.specs.Shown.{firstOf, secondOf, events, Shown, FirstPair, Says, Hold, Tried, Around}
 use Rattle.verdict.proofs.PairLaws.{some-below, some-above}
 
 -- A rule is broken, or holds, as the smallest of what it forbids is below 64 or not.
@@ -43,8 +46,15 @@ module _ (r : Rel) (a b : ℕ) (pair : FirstPair r a b) where
   unfolding secondOf
   pair-bounds h = (omega arith, omega (arith, pair .second h, least-is 64 (r (firstOf r)) .bound))
 
+-- The same of an equal relation.
+pub ring-same : (r e s c : Rel) (l : List ℕ) → r ≡ s → e ≡ c → RingOrNone r e l → RingOrNone s c l
+ring-same r e s c l p q w = subst (λ (t : Rel). RingOrNone t c l) p (subst (λ (t : Rel). RingOrNone r t l) q w)
+
+pub pair-same : (r s : Rel) (a b : ℕ) → r ≡ s → FirstPair r a b → FirstPair s a b
+pair-same r s a b p w = subst (λ (t : Rel). FirstPair t a b) p w
+
 -- Where an event comes back to itself, the ring routine answers a ring.
-pub ring-there : (r e : Rel) (l : List ℕ) → RingOrNone r e l → (y : ℕ) × (closed r e y y ≡ true) → Ring r e l
+ring-there : (r e : Rel) (l : List ℕ) → RingOrNone r e l → (y : ℕ) × (closed r e y y ≡ true) → Ring r e l
 ring-there r e l w (y, p) =
     elim (decLt zero (length l)) [
       | yes h ↦ w .ring h
@@ -52,9 +62,58 @@ ring-there r e l w (y, p) =
     ]
 
 -- Where some event is related to itself, there is one.
-pub diagonal-there : (r : Rel) → some nodes (diagonal r) ≡ true → (x : ℕ) × (r x x ≡ true)
+diagonal-there : (r : Rel) → some nodes (diagonal r) ≡ true → (x : ℕ) × (r x x ≡ true)
 unfolding diagonal
 diagonal-there r p = let (x, m, h) = some-sound nodes (diagonal r) p in (x, h)
+
+-- The test at place k.
+unfoldable pub nth : List Bool → ℕ → Bool
+nth [] k = false
+nth (b ∷ bs) zero = b
+nth (b ∷ bs) (suc k) = nth bs k
+
+-- The tests before place k fail: the one at k is the first that passes, or fails too.
+first-at : (n k : ℕ) (bs : List Bool) → first (suc n) (take k bs) ≡ 0 → nth bs k ≡ true → first (suc n) bs ≡ n + suc k
+unfolding first nth
+first-at n k [] h p = absurd (false≢true p)
+first-at n zero (true ∷ bs) h p = omega arith
+first-at n zero (false ∷ bs) h p = absurd (false≢true p)
+first-at n (suc k) (true ∷ bs) h p = absurd (omega (arith, h))
+first-at n (suc k) (false ∷ bs) h p = omega (arith, first-at (suc n) k bs h p)
+
+hold-more : (n k : ℕ) (bs : List Bool) → first (suc n) (take k bs) ≡ 0 → nth bs k ≡ false → first (suc n) (take (suc k) bs) ≡ 0
+unfolding first nth
+hold-more n k [] h p = refl
+hold-more n zero (true ∷ bs) h p = absurd (false≢true (sym p))
+hold-more n zero (false ∷ bs) h p = refl
+hold-more n (suc k) (true ∷ bs) h p = absurd (omega (arith, h))
+hold-more n (suc k) (false ∷ bs) h p = hold-more (suc n) k bs h p
+
+-- Rules 1 to k hold: the next one is the first broken one, or holds too.
+module _ (M : Model) (B : Base) where
+  module _ (k : ℕ) (hold : Hold k M B) where
+    broken-rule : nth (failures nodes B M) k ≡ true → verdict nodes B M ≡ suc k
+    unfolding verdict
+    broken-rule p = first-at 0 k (failures nodes B M) hold p ∙ zero-add (suc k)
+
+    pub next-rule : nth (failures nodes B M) k ≡ false → Hold (suc k) M B
+    next-rule p = hold-more 0 k (failures nodes B M) hold p
+
+  pub hold-1 : some nodes (unread nodes B) ≡ false → Hold 1 M B
+  unfolding failures nth first
+  hold-1 p = next-rule 0 refl p
+
+  pub hold-2 : Hold 1 M B → anywhere nodes (unordered nodes B) ≡ false → Hold 2 M B
+  unfolding failures nth
+  hold-2 hold p = next-rule 1 hold p
+
+  pub hold-3 : Hold 2 M B → some nodes (diagonal (eval nodes (M .coherent) B)) ≡ false → Hold 3 M B
+  unfolding failures nth
+  hold-3 hold p = next-rule 2 hold p
+
+  pub hold-4 : Hold 3 M B → anywhere nodes (eval nodes broken-pair B) ≡ false → Hold 4 M B
+  unfolding failures nth
+  hold-4 hold p = next-rule 3 hold p
 
 -- What is shown, by the verdict's number.
 module _ (M : Model) (B : Base) (steps closing : Rel) (v : Verdict) where
@@ -98,67 +157,51 @@ module _ (M : Model) (B : Base) (steps closing : Rel) (v : Verdict) where
         broken5 = λ z. case5 (at 5 z);
       }
 
-  -- The verdict's number by the five tests.
-  number : (b₁ b₂ b₃ b₄ b₅ : Bool) → some nodes (unread nodes B) ≡ b₁ → anywhere nodes (unordered nodes B) ≡ b₂
-      → some nodes (diagonal (eval nodes (M .coherent) B)) ≡ b₃ → anywhere nodes (eval nodes broken-pair B) ≡ b₄
-      → some nodes (diagonal (plus nodes (eval nodes (M .order) B))) ≡ b₅ → verdict nodes B M ≡ first 1 (b₁ ∷ b₂ ∷ b₃ ∷ b₄ ∷ b₅ ∷ [])
-  unfolding verdict failures eval
-  number b₁ b₂ b₃ b₄ b₅ p₁ p₂ p₃ p₄ p₅ = λ i. first 1 (p₁ i ∷ p₂ i ∷ p₃ i ∷ p₄ i ∷ p₅ i ∷ [])
+  -- What a try found: no broken rule, or the first one.
+  pub tried-none : (k : ℕ) → v .len ≡ 0 → Hold k M B → Tried k steps closing M B v
+  tried-none k e hold = record { broken = λ d. absurd (d e); holds = λ z. hold }
 
-  -- The stages: rules 1 to k - 1 hold, and k is broken; or all hold.
-  pub shown-1 : some nodes (unread nodes B) ≡ true → (k : ℕ) → k ≡ least 64 (unread nodes B) → Says v (answers 1) (k ∷ []) → Shown steps closing M B v
-  unfolding first
-  shown-1 p k e w =
-      shown 1 (number true _ _ _ _ p refl refl refl refl) (w .answer) (w .bound)
-      (broken1 (w .shows ∙ ap (λ (x : ℕ). x ∷ []) e))
+  found : (k : ℕ) → 0 < length (events v) → Shown steps closing M B v → Tried k steps closing M B v
+  found k h w =
+      record { broken = λ d. w; holds = λ e. absurd (omega (arith, h, ap (λ (n : ℕ). length (take n (v .at))) e)) }
+
+  pub tried-1 : some nodes (unread nodes B) ≡ true → (k : ℕ) → k ≡ least 64 (unread nodes B) → Says v (answers 1) (k ∷ []) → Tried 2 steps closing M B v
+  unfolding failures nth first
+  tried-1 p k e w =
+      found 2 (omega (arith, ap length (w .shows)))
+      (shown 1 (broken-rule M B 0 refl p) (w .answer) (w .bound) (broken1 (w .shows ∙ ap (λ (x : ℕ). x ∷ []) e)))
 
   pair-shown : (r : Rel) (a b : ℕ) → FirstPair r a b → a < 64 → a ∷ b ∷ [] ≡ firstOf r ∷ secondOf r ∷ []
   pair-shown r a b w h = λ i. w .first i ∷ w .second h i ∷ []
 
-  module _ (p₁ : some nodes (unread nodes B) ≡ false) where
-    pub shown-2 : (a b : ℕ) → FirstPair (unordered nodes B) a b → a < 64 → Says v (answers 2) (a ∷ b ∷ []) → Shown steps closing M B v
-    unfolding first
-    shown-2 a b q h w =
-        shown 2 (number false true _ _ _ p₁ (pair-found _ a b q h) refl refl refl) (w .answer) (w .bound)
-        (broken2 (w .shows ∙ pair-shown _ a b q h))
+  pub tried-2 : Hold 1 M B → (a b : ℕ) → FirstPair (unordered nodes B) a b → a < 64 → Says v (answers 2) (a ∷ b ∷ []) → Tried 2 steps closing M B v
+  unfolding failures nth
+  tried-2 hold a b q h w =
+      found 2 (omega (arith, ap length (w .shows)))
+      (shown 2 (broken-rule M B 1 hold (pair-found _ a b q h)) (w .answer) (w .bound) (broken2 (w .shows ∙ pair-shown _ a b q h)))
 
-    module _ (p₂ : anywhere nodes (unordered nodes B) ≡ false) where
-      pub shown-3 : some nodes (diagonal (eval nodes (M .coherent) B)) ≡ true → v .answer ≡ answers 3 → v .len ≤ 64 → Ring steps closing (events v)
-          → Shown steps closing M B v
-      unfolding first
-      shown-3 p a b w = shown 3 (number false false true _ _ p₁ p₂ p refl refl) a b (broken3 w)
+  pub tried-3 : Hold 2 M B → some nodes (diagonal (eval nodes (M .coherent) B)) ≡ true → Around M B steps closing → v .answer ≡ answers 3 → v .len ≤ 64
+      → RingOrNone steps closing (events v) → Tried 3 steps closing M B v
+  unfolding failures nth
+  tried-3 hold p around a b w =
+      let (x, h) = diagonal-there _ p in
+      let ring = ring-there steps closing (events v) w (around x h) in
+      found 3 (omega (arith, ring .inside)) (shown 3 (broken-rule M B 2 hold p) a b (broken3 ring))
 
-      module _ (p₃ : some nodes (diagonal (eval nodes (M .coherent) B)) ≡ false) where
-        pub shown-4 : (a b : ℕ) → FirstPair (eval nodes broken-pair B) a b → a < 64 → Says v (answers 4) (a ∷ b ∷ []) → Shown steps closing M B v
-        unfolding first
-        shown-4 a b q h w =
-            shown 4 (number false false false true _ p₁ p₂ p₃ (pair-found _ a b q h) refl) (w .answer) (w .bound)
-            (broken4 (w .shows ∙ pair-shown _ a b q h))
+  pub tried-4 : Hold 3 M B → (a b : ℕ) → FirstPair (eval nodes broken-pair B) a b → a < 64 → Says v (answers 4) (a ∷ b ∷ []) → Tried 4 steps closing M B v
+  unfolding failures nth
+  tried-4 hold a b q h w =
+      found 4 (omega (arith, ap length (w .shows)))
+      (shown 4 (broken-rule M B 3 hold (pair-found _ a b q h)) (w .answer) (w .bound) (broken4 (w .shows ∙ pair-shown _ a b q h)))
 
-        module _ (p₄ : anywhere nodes (eval nodes broken-pair B) ≡ false) where
-          pub shown-5 : some nodes (diagonal (plus nodes (eval nodes (M .order) B))) ≡ true → v .answer ≡ answers 5 → v .len ≤ 64
-              → Ring (eval nodes (M .order) B) (eval nodes (M .order) B) (events v) → Shown steps closing M B v
-          unfolding first
-          shown-5 p a b w = shown 5 (number false false false false true p₁ p₂ p₃ p₄ p) a b (broken5 w)
+  pub shown-5 : Hold 4 M B → Inside (eval nodes (M .order) B) → some nodes (diagonal (plus nodes (eval nodes (M .order) B))) ≡ true
+      → v .answer ≡ answers 5 → v .len ≤ 64 → RingOrNone (eval nodes (M .order) B) (eval nodes (M .order) B) (events v) → Shown steps closing M B v
+  unfolding failures nth eval
+  shown-5 hold inside p a b w =
+      let (x, h) = diagonal-there _ p in
+      shown 5 (broken-rule M B 4 hold p) a b (broken5 (ring-there _ _ (events v) w (x, plus-closed _ inside x h)))
 
-          pub shown-0 : some nodes (diagonal (plus nodes (eval nodes (M .order) B))) ≡ false → Says v (answers 0) (order 64 (eval nodes (M .order) B) (B .E))
-              → Shown steps closing M B v
-          unfolding first
-          shown-0 p w = shown 0 (number false false false false false p₁ p₂ p₃ p₄ p) (w .answer) (w .bound) (allowed (w .shows))
-
--- What is shown, at the relations of a model that the computed ones are.
-pub concluded : (M : Model) (B : Base) (v : Verdict) (steps closing : Rel) (incoherent : Set) (s c pairs relation : Rel) → s ≡ steps → c ≡ closing
-    → ((x : ℕ) → eval nodes (M .coherent) B x x ≡ true → (y : ℕ) × (closed steps closing y y ≡ true))
-    → incoherent ≡ diagonal (eval nodes (M .coherent) B) → pairs ≡ eval nodes broken-pair B → relation ≡ eval nodes (M .order) B
-    → (Computed M B incoherent s c pairs relation → Shown s c M B v) → Shown steps closing M B v
-concluded M B v steps closing incoherent s c pairs relation e f around p q r decided =
-    subst (λ (t : Rel). Shown t closing M B v) e (subst (λ (t : Rel). Shown s t M B v) f (decided computed))
-  where
-    computed : Computed M B incoherent s c pairs relation
-    computed =
-        record {
-          rule3 = p;
-          around = λ x h. let (y, w) = around x h in (y, ap₂ (λ (t u : Rel). closed t u y y) e f ∙ w);
-          rule4 = q;
-          rule5 = r;
-        }
+  pub shown-0 : Hold 4 M B → some nodes (diagonal (plus nodes (eval nodes (M .order) B))) ≡ false
+      → Says v (answers 0) (order 64 (eval nodes (M .order) B) (B .E)) → Shown steps closing M B v
+  unfolding verdict failures nth eval
+  shown-0 hold p w = shown 0 (next-rule M B 4 hold p) (w .answer) (w .bound) (allowed (w .shows))

@@ -21,12 +21,7 @@ use Rattle.verdict.specs.declared.Verdict.{Verdict}
 use Rattle.verdict.specs.Answer.{answers}
 use Rattle.verdict.specs.Shown.{firstOf, secondOf, events, Shown}
 use Rattle.verdict.proofs.PairLaws.{fails}
-
--- The test at place k.
-nth : List Bool → ℕ → Bool
-nth [] k = false
-nth (b ∷ bs) zero = b
-nth (b ∷ bs) (suc k) = nth bs k
+use Rattle.verdict.proofs.ShownLaws.{nth}
 
 first-from : (n : ℕ) (bs : List Bool) → (first n bs ≡ 0) ⊎ (n ≤ first n bs)
 unfolding first

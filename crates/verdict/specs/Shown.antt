@@ -4,12 +4,12 @@ use mathlib.Core.Bool.{true}
 use mathlib.Core.List.{List, [], _∷_}
 use Prim.Native.Nat.{ℕ, _<_, _≤_}
 use lib.ListN.{take}
-use Rattle.relation.specs.Rel.{Set, Rel, some, least, diagonal, nodes}
+use Rattle.relation.specs.Rel.{Rel, some, least, nodes}
 use Rattle.relation.specs.Ring.{Ring, closed}
 use Rattle.relation.specs.Order.{order}
 use Rattle.models.specs.Graph.{Base}
 use Rattle.models.specs.Term.{eval}
-use Rattle.models.specs.Rules.{Model, broken-pair, unread, unordered, verdict}
+use Rattle.models.specs.Rules.{Model, broken-pair, first, unread, unordered, failures, verdict}
 use Rattle.verdict.specs.declared.Answer.{Answer}
 use Rattle.verdict.specs.declared.Verdict.{Verdict}
 use Rattle.verdict.specs.Answer.{answers}
@@ -56,10 +56,15 @@ pub record Says (v : Verdict) (a : Answer) (l : List ℕ) : Type 0 where
   pub bound : v .len ≤ 64
   pub shows : events v ≡ l
 
--- What is computed of a model M before the rules are tried: the events that rule 3 forbids, its ring's relations,
--- with a way round wherever it is broken, the pairs that rule 4 forbids, and the relation of rule 5.
-pub record Computed (M : Model) (B : Base) (incoherent : Set) (steps closing pairs relation : Rel) : Type 0 where
-  pub rule3 : incoherent ≡ diagonal (eval nodes (M .coherent) B)
-  pub around : (x : ℕ) → eval nodes (M .coherent) B x x ≡ true → (y : ℕ) × (closed steps closing y y ≡ true)
-  pub rule4 : pairs ≡ eval nodes broken-pair B
-  pub rule5 : relation ≡ eval nodes (M .order) B
+-- Rules 1 to k of the model M hold over B.
+abbrev pub Hold : ℕ → Model → Base → Type 0
+Hold k M B = first 1 (take k (failures nodes B M)) ≡ 0
+
+-- v is what is found where rules up to k are tried: the verdict where one is broken; else no event, and they hold.
+pub record Tried (k : ℕ) (steps closing : Rel) (M : Model) (B : Base) (v : Verdict) : Type 0 where
+  pub broken : (v .len ≡ 0 → ⊥) → Shown steps closing M B v
+  pub holds : v .len ≡ 0 → Hold k M B
+
+-- Wherever rule 3 is broken, steps and a closing step come back to an event.
+abbrev pub Around : Model → Base → Rel → Rel → Type 0
+Around M B steps closing = (x : ℕ) → eval nodes (M .coherent) B x x ≡ true → (y : ℕ) × (closed steps closing y y ≡ true)

@@ -1,5 +1,5 @@
 // What the verdicts of all memory models share: their answer, the base of an execution graph as arrays,
-// the rules that every model has, and the last stage, which names the first broken rule and shows what is to be shown of it.
+// what the rules forbid that every model has, and the tries of the rules, in order, with what is shown of the first broken one.
 // The rules are those of `models`; nothing here knows a model.
 
 pub mod base;

@@ -1,4 +1,5 @@
-// The last stage of a verdict: the first broken rule, and what is shown of it (01, "What is shown").
+// The tries of the rules, in order, and what is shown of the first broken one (01, "What is shown").
+// A try gives the verdict where a rule is broken, and else no event; the last one gives the verdict.
 
 use crate::Answer;
 use crate::Verdict;
@@ -8,6 +9,7 @@ use crate::base::Relations;
 use crate::base::Row;
 use crate::base::Sets;
 use crate::rules::Pair;
+use crate::rules::broken_pairs;
 use crate::rules::first_pair;
 use crate::rules::unordered;
 use crate::rules::unread;
@@ -18,13 +20,15 @@ use relation::row;
 ghost use mathlib.Core.Path.{_≡_};
 ghost use mathlib.Core.List.{[], _∷_};
 ghost use Prim.Native.Nat.{_<_, _≤_};
+ghost use Rattle.relation.specs.Rel.{Rel, diagonal, nodes};
 ghost use Rattle.relation.specs.Bits.{bit, edge};
 ghost use Rattle.relation.specs.Ring.{RingOrNone};
 ghost use Rattle.relation.specs.Order.{order};
 ghost use Rattle.models.specs.Graph.{Base};
+ghost use Rattle.models.specs.Term.{eval, frₑ, coₑ};
 ghost use Rattle.models.specs.Rules.{Model};
 ghost use Rattle.verdict.specs.Base.{baseOf};
-ghost use Rattle.verdict.specs.Shown.{Says, events, Computed, Shown};
+ghost use Rattle.verdict.specs.Shown.{Says, events, Hold, Tried, Around, Shown};
 
 // One event of a broken rule.
 fn broken_event(rule: u8, k: usize) -> Verdict
@@ -83,20 +87,20 @@ fn allowed(g: Grid, s: Row) -> Verdict
     }
 }
 
-// The verdict of a model over a base, from what is computed of the model: the events that rule 3 forbids,
-// its ring's steps and closing step, the pairs that rule 4 forbids, and the relation of rule 5, in whose order events are shown.
-pub fn decide(
-    sets: Sets,
-    relations: Relations,
-    incoherent: Row,
-    steps: Grid,
-    closing: Grid,
-    pairs: Grid,
-    order: Grid,
-) -> Verdict
-    ensures { λ r. ⌜ (let B : Base = baseOf sets relations in (M : Model)
-        → Computed M B (bit incoherent) (edge steps) (edge closing) (edge pairs) (edge order)
-        → Shown (edge steps) (edge closing) M B r) ⌝ }
+// No rule is broken so far: no event.
+fn unbroken() -> Verdict
+    ensures { λ r. ⌜ r .len ≡ 0 ⌝ }
+{
+    Verdict {
+        answer: Answer::Allowed,
+        at: [0u8; 64],
+        len: 0,
+    }
+}
+
+// Rules 1 and 2: every read has rf, and co orders any two writes of a location.
+pub fn completeness(sets: Sets, relations: Relations) -> Verdict
+    ensures { λ r. ⌜ ((M : Model) (steps closing : Rel) → Tried 2 steps closing M (baseOf sets relations) r) ⌝ }
 {
     let read = row::first(unread(sets[base::READS], relations[base::RF]));
     if read < 64 {
@@ -110,15 +114,41 @@ pub fn decide(
     if writes.first < 64 {
         return broken_pair(2, writes);
     }
+    unbroken()
+}
+
+// Rule 3, from the events that it forbids, its ring's steps and closing step.
+pub fn coherence(incoherent: Row, steps: Grid, closing: Grid) -> Verdict
+    ensures { λ r. ⌜ ((M : Model) (B : Base) (s c : Rel) → Hold 2 M B → bit incoherent ≡ diagonal (eval nodes (M .coherent) B)
+        → edge steps ≡ s → edge closing ≡ c → Around M B s c → Tried 3 s c M B r) ⌝ }
+{
     if row::first(incoherent) < 64 {
         return broken_ring(3, steps, closing);
     }
+    unbroken()
+}
+
+// Rule 4: no rmw pair is also fre then coe.
+pub fn atomicity(rmw: Grid, fre: Grid, coe: Grid) -> Verdict
+    ensures { λ r. ⌜ ((M : Model) (B : Base) (s c : Rel) → Hold 3 M B → edge rmw ≡ B .rmw → edge fre ≡ eval nodes frₑ B
+        → edge «coe» ≡ eval nodes coₑ B → Tried 4 s c M B r) ⌝ }
+{
+    let pairs = broken_pairs(rmw, fre, coe);
     let broken = first_pair(pairs);
     if broken.first < 64 {
         return broken_pair(4, broken);
     }
-    if row::first(grid::diagonal(grid::closure(order))) < 64 {
+    unbroken()
+}
+
+// Rule 5, from its relation, in whose order events are shown where it holds too.
+pub fn acyclicity(order: Grid, events: Row) -> Verdict
+    ensures { λ r. ⌜ ((M : Model) (B : Base) (s c : Rel) → Hold 4 M B → edge order ≡ eval nodes (M .order) B → bit events ≡ B .E
+        → Shown s c M B r) ⌝ }
+{
+    let reached = grid::closure(order);
+    if row::first(grid::diagonal(reached)) < 64 {
         return broken_ring(5, order, order);
     }
-    allowed(order, sets[base::EVENTS])
+    allowed(order, events)
 }

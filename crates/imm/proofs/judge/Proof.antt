@@ -1,4 +1,4 @@
--- `judge` meets its contract: its relations are those of the model, and a broken rule 3 has a ring. Assumes nothing.
+-- `judge` meets its contract: its relations are those of the model, rule by rule, and a broken rule 3 has a ring. Assumes nothing.
 use mathlib.Core.Path.{_≡_, refl, ap, ap₂, subst, _∙_}
 use Rattle.relation.specs.Rel.{either, diagonal, nodes}
 use Rattle.relation.specs.Bits.{bit, edge}
@@ -6,9 +6,9 @@ use Rattle.relation.proofs.Walks.{Inside, edge-inside}
 use Rattle.models.specs.Graph.{Base}
 use Rattle.models.specs.Term.{eval, fr, frₑ}
 use Rattle.models.specs.Imm.{hb, eco}
-use Rattle.models.specs.Rules.{IMM, broken-pair}
+use Rattle.models.specs.Rules.{IMM}
 use Rattle.verdict.specs.Base.{baseOf}
-use Rattle.verdict.proofs.ShownLaws.{concluded}
+use Rattle.verdict.specs.Shown.{Hold, Tried}
 use Rattle.verdict.proofs.TermLaws.{holds, given, is-minus, is-then, is-opt, is-plus}
 use Rattle.imm.specs.Judged.{apart, steps, closing}
 use Rattle.imm.proofs.Around.{apart-is, around}
@@ -16,20 +16,30 @@ use borrow.Author.Needs.{needs}
 use Rattle.imm.proofs.judge.Statement.{statement}
 use Rattle.imm.proofs.judge.Tie as tie
 
--- The base that the arguments hold, and the way back to them.
-abbrev base : tie.Start → Base
-base c = baseOf (c .args .t1) (c .args .t2)
+-- The base that the arguments hold, and the way back to where rules 1 and 2 hold.
+abbrev base : tie.Else1 → Base
+base c = (let start = c .before .before .before in baseOf (start .args .t1) (start .args .t2))
 
-abbrev from-fr : tie.After-fr → tie.Start
-from-fr c = c .before .before .before .before .before .before .before .before .before
+abbrev from-fr : tie.After-fr → tie.Else1
+from-fr c = c .before .before .before .before .before .before .before .before
 
-abbrev from-steps : tie.After-steps → tie.Start
+abbrev from-steps : tie.After-steps → tie.Else1
 from-steps c = from-fr (c .before)
 
-abbrev from-eco : tie.After-eco → tie.Start
+abbrev from-eco : tie.After-eco → tie.Else1
 from-eco c = from-steps (c .before .before .before)
 
--- The relations, one after the other.
+abbrev to-eco : tie.After-coherence → tie.After-eco
+to-eco c = c .before .before .before .before .before .before .before .before .before
+
+abbrev to-coherence : tie.After-atomicity → tie.After-coherence
+to-coherence c = c .before .before .before .before .before .before
+
+-- Rules 1 and 2 hold.
+hold-2 : (c : tie.Else1) → Hold 2 IMM (base c)
+hold-2 c = c .before .before .completeness .ensures IMM (steps (base c)) (closing (base c)) .holds (c .if1 .left)
+
+-- Rule 3.
 fr-is : (c : tie.After-fr) → edge (c .fr .result) ≡ eval nodes fr (base (from-fr c))
 unfolding baseOf
 fr-is c = c .fr .ensures (base (from-fr c)) refl refl
@@ -37,8 +47,11 @@ fr-is c = c .fr .ensures (base (from-fr c)) refl refl
 steps-is : (c : tie.After-steps) → edge (c .steps .result) ≡ steps (base (from-steps c))
 unfolding eval baseOf steps
 steps-is c =
-    let after-rfi = c .before .before .before in
+    let after-rfi = c .before .before in
     c .steps .ensures (after-rfi .before .before .and .ensures) (after-rfi .before .minus .ensures) (after-rfi .and2 .ensures)
+
+inside : (c : tie.After-steps) → Inside (steps (base (from-steps c)))
+inside c = subst Inside (steps-is c) (edge-inside _ (search needs))
 
 hb-is : (c : tie.After-closure) → edge (c .closure .result) ≡ eval nodes hb (base (from-steps (c .before)))
 unfolding steps
@@ -48,43 +61,59 @@ eco-is : (c : tie.After-eco) → edge (c .eco .result) ≡ eval nodes eco (base 
 unfolding baseOf
 eco-is c = c .eco .ensures (base (from-eco c)) refl refl refl (fr-is (c .before .before .before .before))
 
-incoherent-is : (c : tie.After-diagonal) → bit (c .diagonal .result) ≡ diagonal (eval nodes (IMM .coherent) (base (from-eco (c .before .before .before .before))))
+inside-eco : (c : tie.After-eco) → Inside (edge (c .eco .result))
+inside-eco c = edge-inside _ (search needs)
+
+returning-is : (c : tie.After-diagonal) → bit (c .diagonal .result) ≡ diagonal (eval nodes (IMM .coherent) (base (from-eco (c .before .before .before .before))))
 unfolding baseOf
-incoherent-is c =
+returning-is c =
     let after-eco = c .before .before .before .before in
     c .diagonal .ensures
     ∙ ap diagonal
     (holds (base (from-eco after-eco)) (IMM .coherent)
     (is-then (given (hb-is (after-eco .before .before))) (is-opt refl (given (eco-is after-eco)) (c .before .before .optional .ensures)) (c .before .then .ensures)))
 
-inside-eco : (c : tie.After-eco) → Inside (edge (c .eco .result))
-inside-eco c = edge-inside _ (search needs)
-
 closing-is : (c : tie.After-or) → edge (c .or .result) ≡ closing (base (from-eco (c .before .before .before .before .before .before .before .before)))
 unfolding closing
 closing-is c =
     let after-eco = c .before .before .before .before .before .before .before .before in
-    let eco-apart = apart-is _ _ _ _ (inside-eco after-eco) (c .before .before .before .all .ensures) (c .before .before .identity .ensures) (c .before .minus3 .ensures) in
+    let eco-apart = apart-is _ _ _ _ (inside-eco after-eco) (c .before .before .before .all .ensures) (c .before .before .identity .ensures) (c .before .minus2 .ensures) in
     c .or .ensures ∙ ap₂ either (steps-is (after-eco .before .before .before)) (eco-apart ∙ ap apart (eco-is after-eco))
 
-pairs-is : (c : tie.After-broken-pairs) → edge (c .broken-pairs .result) ≡ eval nodes broken-pair (base (from-eco (c .before .before .before .before .before .before .before .before .before .before .before)))
+tried-3 : (c : tie.After-coherence) → let B = base (from-eco (to-eco c)) in Tried 3 (steps B) (closing B) IMM B (c .coherence .result)
+tried-3 c =
+    let after-steps = to-eco c .before .before .before in
+    let B = base (from-steps after-steps) in
+    c .coherence .ensures IMM B (steps B) (closing B) (hold-2 (from-steps after-steps)) (returning-is (c .before .before .before .before .before)) (steps-is after-steps)
+    (closing-is (c .before)) (around _ (inside after-steps))
+
+-- Rule 4.
+tried-4 : (c : tie.After-atomicity) → let B = base (from-eco (to-eco (to-coherence c))) in Tried 4 (steps B) (closing B) IMM B (c .atomicity .result)
 unfolding eval baseOf
-pairs-is c =
-    let after-fr = c .before .before .before .before .before .before .before .before .before .before .before .before .before .before .before in
+tried-4 c =
+    let after-coe = c .before .before .before in
+    let else2 = after-coe .before in
+    let after-fr = to-eco (to-coherence c) .before .before .before .before in
     let B = base (from-fr after-fr) in
     let fre = holds B frₑ (is-minus (given (fr-is after-fr)) (given refl) (c .before .minus4 .ensures)) in
-    c .broken-pairs .ensures B refl fre (after-fr .before .minus2 .ensures)
+    c .atomicity .ensures IMM B (steps B) (closing B) (tried-3 (to-coherence c) .holds (else2 .if2 .left)) refl fre (after-coe .minus3 .ensures)
 
-ar-is : (c : tie.After-ar) → edge (c .ar .result) ≡ eval nodes (IMM .order) (base (from-eco (c .before .before .before .before .before .before .before .before .before .before .before .before)))
+-- Rule 5.
+ar-is : (c : tie.After-ar) → edge (c .ar .result) ≡ eval nodes (IMM .order) (base (from-eco (to-eco (to-coherence (c .before .before .before)))))
 unfolding eval baseOf
 ar-is c =
-    let after-eco = c .before .before .before .before .before .before .before .before .before .before .before .before in
-    let after-rfi = after-eco .before .before .before .before .before .before in
-    c .ar .ensures (after-rfi .before .before .and .ensures) (after-rfi .before .minus .ensures) (after-rfi .and2 .ensures) (after-eco .before .before .before .before .before .minus2 .ensures)
-    (hb-is (after-eco .before .before)) (eco-is after-eco)
+    let after-atomicity = c .before .before .before in
+    let after-eco = to-eco (to-coherence after-atomicity) in
+    let after-rfi = after-eco .before .before .before .before .before in
+    c .ar .ensures (after-rfi .before .before .and .ensures) (after-rfi .before .minus .ensures) (after-rfi .and2 .ensures)
+    (after-atomicity .before .before .before .minus3 .ensures) (hb-is (after-eco .before .before)) (eco-is after-eco)
 
-inside : (c : tie.After-steps) → Inside (steps (base (from-steps c)))
-inside c = subst Inside (steps-is c) (edge-inside _ (search needs))
+completeness-requires : tie.Need-completeness-requires
+completeness-requires c κs = search needs
+
+returns : tie.Need-returns
+returns c =
+    c .before .before .completeness .ensures IMM _ _ .broken (c .if1 .taken)
 
 array-copy-out-po : tie.Need-array-copy-out-po
 array-copy-out-po c = search needs
@@ -106,9 +135,6 @@ minus-requires c κs = search needs
 
 and-requires-2 : tie.Need-and-requires-2
 and-requires-2 c κs = search needs
-
-minus-requires-2 : tie.Need-minus-requires-2
-minus-requires-2 c κs = search needs
 
 fr-requires : tie.Need-fr-requires
 fr-requires c κs = search needs
@@ -143,39 +169,57 @@ all-requires c κs = search needs
 identity-requires : tie.Need-identity-requires
 identity-requires c κs = search needs
 
-minus-requires-3 : tie.Need-minus-requires-3
-minus-requires-3 c κs = search needs
+minus-requires-2 : tie.Need-minus-requires-2
+minus-requires-2 c κs = search needs
 
 or-requires : tie.Need-or-requires
 or-requires c κs = search needs
 
-array-copy-out-broken-pairs : tie.Need-array-copy-out-broken-pairs
-array-copy-out-broken-pairs c = search needs
+coherence-requires : tie.Need-coherence-requires
+coherence-requires c κs = search needs
+
+returns-2 : tie.Need-returns-2
+returns-2 c = tried-3 (c .before .before) .broken (c .if2 .taken)
+
+minus-requires-3 : tie.Need-minus-requires-3
+minus-requires-3 c κs = search needs
+
+array-copy-out-atomicity : tie.Need-array-copy-out-atomicity
+array-copy-out-atomicity c = search needs
 
 minus-requires-4 : tie.Need-minus-requires-4
 minus-requires-4 c κs = search needs
 
-broken-pairs-requires : tie.Need-broken-pairs-requires
-broken-pairs-requires c κs = search needs
+atomicity-requires : tie.Need-atomicity-requires
+atomicity-requires c κs = search needs
+
+returns-3 : tie.Need-returns-3
+returns-3 c = tried-4 (c .before .before) .broken (c .if3 .taken)
 
 ar-requires : tie.Need-ar-requires
 ar-requires c κs = search needs
 
-decide-requires : tie.Need-decide-requires
-decide-requires c κs = search needs
+array-copy-out-acyclicity : tie.Need-array-copy-out-acyclicity
+array-copy-out-acyclicity c = search needs
 
-returns : tie.Need-returns
-returns c =
-    let after-or = c .before .before .before .before .before in
-    let after-diagonal = after-or .before .before .before .before in
-    let after-steps = after-diagonal .before .before .before .before .before .before .before in
-    concluded IMM _ _ _ _ _ _ _ _ _ (steps-is after-steps) (closing-is after-or) (around _ (inside after-steps))
-    (incoherent-is after-diagonal) (pairs-is (c .before .before)) (ar-is (c .before)) (c .decide .ensures IMM)
+acyclicity-requires : tie.Need-acyclicity-requires
+acyclicity-requires c κs = search needs
+
+returns-4 : tie.Need-returns-4
+unfolding baseOf
+returns-4 c =
+    let after-ar = c .before .before in
+    let else3 = after-ar .before in
+    let after-atomicity = else3 .before .before in
+    let B = base (from-eco (to-eco (to-coherence after-atomicity))) in
+    c .acyclicity .ensures IMM B (steps B) (closing B) (tried-4 after-atomicity .holds (else3 .if3 .left)) (ar-is after-ar) refl
 
 pub judge-spec : {M : Type 1} → statement M
 judge-spec =
     tie.close
     (tie.spec
+    completeness-requires
+    returns
     array-copy-out-po
     array-copy-out-rf
     array-copy-out-co
@@ -183,7 +227,6 @@ judge-spec =
     and-requires
     minus-requires
     and-requires-2
-    minus-requires-2
     fr-requires
     steps-requires
     closure-requires
@@ -195,11 +238,16 @@ judge-spec =
     diagonal-requires
     all-requires
     identity-requires
-    minus-requires-3
+    minus-requires-2
     or-requires
-    array-copy-out-broken-pairs
+    coherence-requires
+    returns-2
+    minus-requires-3
+    array-copy-out-atomicity
     minus-requires-4
-    broken-pairs-requires
+    atomicity-requires
+    returns-3
     ar-requires
-    decide-requires
-    returns)
+    array-copy-out-acyclicity
+    acyclicity-requires
+    returns-4)

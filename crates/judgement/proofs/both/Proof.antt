@@ -4,14 +4,16 @@ use borrow.Author.Needs.{needs}
 use Rattle.judgement.proofs.both.Statement.{statement}
 use Rattle.judgement.proofs.both.Tie as tie
 
-verdict-requires : tie.Need-verdict-requires
-verdict-requires c κs = search needs
+loaded-requires : tie.Need-loaded-requires
+loaded-requires c κs = c .before .pre
 
 chip-requires : tie.Need-chip-requires
-chip-requires c κs = search needs
+chip-requires c κs = c .before .before .pre
 
 returns : tie.Need-returns
-returns c = (c .before .verdict .ensures, (c .chip .ensures, both-sound _ _ _ (c .before .verdict .ensures) (c .chip .ensures)))
+returns c =
+    let source = c .before in
+    (source .loaded .ensures, (c .chip .ensures, both-sound _ _ _ (source .before .before .pre) (source .loaded .ensures) (c .chip .ensures)))
 
 pub both-spec : {M : Type 1} → statement M
-both-spec = tie.close (tie.spec verdict-requires chip-requires returns)
+both-spec = tie.close (tie.spec loaded-requires chip-requires returns)

@@ -1,14 +1,15 @@
--- `chip` meets its contract: refused as the translation is, or judged by the bytes that were written. Assumes nothing.
-use Rattle.judgement.proofs.ChipLaws.{whole, chip-refused, chip-judged}
+-- `chip` meets its contract: the translation is written, it loads, and it is judged. Assumes nothing.
+use denote.Ref.{now}
+use Rattle.judgement.proofs.ChipLaws.{Whole, not-refused, whole, chip-judged}
 use borrow.Author.Needs.{needs}
 use Rattle.judgement.proofs.chip.Statement.{statement}
 use Rattle.judgement.proofs.chip.Tie as tie
 
-slice-aggregate-translate : tie.Need-slice-aggregate-translate
-slice-aggregate-translate c = search needs
+slice-aggregate-written : tie.Need-slice-aggregate-written
+slice-aggregate-written c = search needs
 
-translate-requires : tie.Need-translate-requires
-translate-requires c κs = search needs
+written-requires : tie.Need-written-requires
+written-requires c κs = c .before .before .pre
 
 enum-known-k : tie.Need-enum-known-k
 enum-known-k c = search needs
@@ -19,32 +20,41 @@ refused-requires c κs = search needs
 enum-known-n : tie.Need-enum-known-n
 enum-known-n c = search needs
 
+-- The bytes that were written.
+whole-of : (c : tie.After-known-told2)
+    → Whole (now (c .before .before .before .before .before .before .before .args .file)) (c .before .n .given .0 .0) (c .before .before .before .before .written .last .1 .0)
+whole-of c =
+    let t = c .before .before .before .before in
+    whole _ (t .before .before .before .pre) _ _ (t .written .ensures .0) _ _ (c .before .n .given .1) (t .written .ensures .1)
+
 array-share-prefix-bytes : tie.Need-array-share-prefix-bytes
-array-share-prefix-bytes c = (let t = c .before .before .before .before .translate in whole _ _ _ (search needs) (t .ensures .0) _ _ (c .before .n .given .1) (t .ensures .1) .within)
+array-share-prefix-bytes c = whole-of c .within
 
-slice-aggregate-verdict : tie.Need-slice-aggregate-verdict
-slice-aggregate-verdict c = (let t = c .before .before .before .before .before .translate in whole _ _ _ (search needs) (t .ensures .0) _ _ (c .before .before .n .given .1) (t .ensures .1) .size)
+slice-aggregate-loaded : tie.Need-slice-aggregate-loaded
+slice-aggregate-loaded c = whole-of (c .before) .size
 
-verdict-requires : tie.Need-verdict-requires
-verdict-requires c κs = search needs
+loaded-requires : tie.Need-loaded-requires
+loaded-requires c κs = whole-of (c .before) .loads
 
 returns : tie.Need-returns
-returns c = (chip-refused _ _ 1320 (search needs) (c .before .before .before .before .before .translate .ensures .0) _ _ (c .before .before .k .given .1) (c .refused .ensures .0) (c .refused .ensures .1))
+returns c =
+    let t = c .before .before .before .before .before in
+    absurd (not-refused _ (t .before .before .before .pre) _ _ (t .written .ensures .0) (search needs) _ (c .before .before .k .given .1))
 
 returns-2 : tie.Need-returns-2
-returns-2 c = (let b = c .before .before in let t = b .before .before .before .before .translate in let w = whole _ _ _ (search needs) (t .ensures .0) _ _ (b .before .n .given .1) (t .ensures .1) in chip-judged _ _ _ (w .goes-on) (w .bytes) (c .verdict .ensures))
+returns-2 c = chip-judged _ _ _ (whole-of (c .before .before) .bytes) (c .loaded .ensures)
 
 pub chip-spec : {M : Type 1} → statement M
 chip-spec =
     tie.close
     (tie.spec
-    slice-aggregate-translate
-    translate-requires
+    slice-aggregate-written
+    written-requires
     enum-known-k
     refused-requires
     enum-known-n
     array-share-prefix-bytes
-    slice-aggregate-verdict
-    verdict-requires
+    slice-aggregate-loaded
+    loaded-requires
     returns
     returns-2)

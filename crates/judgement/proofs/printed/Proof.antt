@@ -1,63 +1,97 @@
--- `printed` meets its contract: by the number that loading as a source gives. Assumes nothing.
-use mathlib.Core.Path.{sym, _∙_}
-use Rattle.judgement.proofs.PrintLaws.{imm-bounded, armv8-bounded, chip-bounded, source-lines, chip-line, refusal-line}
+-- `printed` meets its contract: by what loading answers, and by the kind. Assumes nothing.
+use mathlib.Core.Path.{_∙_}
+use Rattle.judgement.proofs.PrintLaws.{refusal-line, own-kind, other-kind, source-lines, chip-line}
 use borrow.Author.Needs.{needs}
 use Rattle.judgement.proofs.printed.Statement.{statement}
 use Rattle.judgement.proofs.printed.Tie as tie
 
-cause-requires : tie.Need-cause-requires
-cause-requires c κs = search needs
+load-requires : tie.Need-load-requires
+load-requires c κs = search needs
 
-both-requires : tie.Need-both-requires
-both-requires c κs = search needs
+enum-known-answer : tie.Need-enum-known-answer
+enum-known-answer c = search needs
 
-line-requires : tie.Need-line-requires
-line-requires c κs = imm-bounded _ _ _ (c .both .ensures .0)
+enum-told : tie.Need-enum-told
+enum-told c = search needs
 
-line-requires-2 : tie.Need-line-requires-2
-line-requires-2 c κs = chip-bounded _ _ (c .before .both .ensures .1 .0)
-
-returns : tie.Need-returns
-returns c = (let v = c .before .before in (source-lines _ _ _ _ _ (sym (v .before .before .cause .ensures) ∙ v .before .if1 .taken) (v .both .ensures .0) (v .both .ensures .1 .0) (c .before .line .ensures .0) (c .line2 .ensures .0), (c .before .line .ensures .1, c .line2 .ensures .1)))
-
-verdict-requires : tie.Need-verdict-requires
-verdict-requires c κs = search needs
-
-line-requires-3 : tie.Need-line-requires-3
-line-requires-3 c κs = armv8-bounded _ _ _ (c .verdict .ensures)
-
-single-requires : tie.Need-single-requires
-single-requires c κs = search needs
-
-returns-2 : tie.Need-returns-2
-returns-2 c = (let v = c .before .before in (chip-line _ _ (v .before .before .before .cause .ensures) _ _ (c .single .ensures .0 ∙ c .before .line3 .ensures .0) (v .before .if2 .taken) (v .verdict .ensures), c .single .ensures .1))
+number-requires : tie.Need-number-requires
+number-requires c κs = search needs
 
 refused-requires : tie.Need-refused-requires
 refused-requires c κs = search needs
 
+line-requires : tie.Need-line-requires
+line-requires c κs = search needs
+
+single-requires : tie.Need-single-requires
+single-requires c κs = search needs
+
+returns : tie.Need-returns
+returns c =
+    let w = c .before .before in
+    let told = w .before .before in (
+      refusal-line _ _ (told .before .before .load .ensures) _ _ _ _ (told .enum-told .given .1) (w .before .number .ensures) (w .refused .ensures .0) (w .refused .ensures .1)
+          (c .single .ensures .0 ∙ c .before .line .ensures .0),
+      c .single .ensures .1,
+    )
+
+both-requires : tie.Need-both-requires
+both-requires c κs = own-kind _ _ (c .before .before .before .before .load .ensures) _ (c .before .before .answer .given .1) 1 (c .if1 .taken)
+
+line-requires-2 : tie.Need-line-requires-2
+line-requires-2 c κs = c .both .ensures .0 .shown .bound
+
+line-requires-3 : tie.Need-line-requires-3
+line-requires-3 c κs = c .before .both .ensures .1 .0 .shown .bound
+
+returns-2 : tie.Need-returns-2
+returns-2 c =
+    let v = c .before .before in
+    let source = v .before in (
+      source-lines _ _ (source .before .before .before .before .load .ensures) _ (source .before .before .answer .given .1) (source .if1 .taken) _ _ _ _ (v .both .ensures .0)
+          (v .both .ensures .1 .0) (v .both .ensures .1 .1) (c .before .line2 .ensures .0) (c .line3 .ensures .0),
+      (c .before .line2 .ensures .1, c .line3 .ensures .1),
+    )
+
+loaded-requires : tie.Need-loaded-requires
+loaded-requires c κs =
+    let load = c .before .before .before .before .load .ensures in
+    let given = c .before .before .answer .given .1 in
+    own-kind _ _ load _ given 2 (other-kind _ _ load _ given (c .if1 .left))
+
 line-requires-4 : tie.Need-line-requires-4
-line-requires-4 c κs = search needs
+line-requires-4 c κs = c .loaded .ensures .shown .bound
 
 single-requires-2 : tie.Need-single-requires-2
 single-requires-2 c κs = search needs
 
 returns-3 : tie.Need-returns-3
-returns-3 c = (let v = c .before .before in (refusal-line _ _ (v .before .before .before .cause .ensures) _ _ (c .single2 .ensures .0 ∙ c .before .line4 .ensures .0) (v .before .before .if1 .left) (v .before .if2 .left) (v .refused .ensures .0) (v .refused .ensures .1), c .single2 .ensures .1))
+returns-3 c =
+    let v = c .before .before in
+    let chip = v .before in
+    let load = chip .before .before .before .before .load .ensures in
+    let given = chip .before .before .answer .given .1 in (
+      chip-line _ _ load _ given (other-kind _ _ load _ given (chip .if1 .left)) _ _ (v .loaded .ensures) (c .single2 .ensures .0 ∙ c .before .line4 .ensures .0),
+      c .single2 .ensures .1,
+    )
 
 pub printed-spec : {M : Type 1} → statement M
 printed-spec =
     tie.close
     (tie.spec
-    cause-requires
-    both-requires
-    line-requires
-    line-requires-2
-    returns
-    verdict-requires
-    line-requires-3
-    single-requires
-    returns-2
+    load-requires
+    enum-known-answer
+    enum-told
+    number-requires
     refused-requires
+    line-requires
+    single-requires
+    returns
+    both-requires
+    line-requires-2
+    line-requires-3
+    returns-2
+    loaded-requires
     line-requires-4
     single-requires-2
     returns-3)

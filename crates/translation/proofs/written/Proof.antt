@@ -1,0 +1,118 @@
+-- `written` meets its contract: refused before anything is written, or written part by part. Assumes nothing.
+use mathlib.Core.Path.{ap, _∙_}
+use mathlib.Core.List.{[]}
+use Rattle.translation.specs.Parts.{placed}
+use Rattle.translation.proofs.CallLaws.{source-of, refused-short, events-room, links-part, all-written}
+use borrow.Author.Needs.{needs}
+use Rattle.translation.proofs.written.Statement.{statement}
+use Rattle.translation.proofs.written.Tie as tie
+
+ctrl-requires : tie.Need-ctrl-requires
+ctrl-requires c κs = source-of _ (c .before .before .pre)
+
+new-events-requires : tie.Need-new-events-requires
+new-events-requires c κs = source-of _ (c .before .before .before .pre)
+
+count-links-requires : tie.Need-count-links-requires
+count-links-requires c κs = (record { source = source-of _ (c .before .before .before .before .pre); grid = c .before .ctrl .ensures }, c .new-events .ensures .0)
+
+mul-start : tie.Need-mul-start
+mul-start c = search needs
+
+add-start : tie.Need-add-start
+add-start c = search needs
+
+mul-length : tie.Need-mul-length
+mul-length c = search needs
+
+add-length : tie.Need-add-length
+add-length c = search needs
+
+returns : tie.Need-returns
+returns c =
+    let counted = c .before in
+    let start = counted .before .before .before .before .before in
+    let w = refused-short _ _ _ _ (start .pre) (counted .before .new-events .ensures .0) (counted .count-links .ensures .0) (c .if1 .taken) in
+    (w .answer, w .output)
+
+header-requires : tie.Need-header-requires
+header-requires c κs =
+    let counted = c .before in
+    let start = counted .before .before .before .before .before in
+    (source-of _ (start .pre), counted .before .new-events .ensures .0, counted .count-links .ensures .0)
+
+slice-aggregate-put : tie.Need-slice-aggregate-put
+slice-aggregate-put c = search needs
+
+put-requires : tie.Need-put-requires
+put-requires c κs = search needs
+
+write-events-requires : tie.Need-write-events-requires
+write-events-requires c κs =
+    let enough = c .before .before .before .before .before .before .before in
+    let counted = enough .before in
+    let start = counted .before .before .before .before .before in (
+      record { source = source-of _ (start .pre); grid = counted .before .before .ctrl .ensures },
+      counted .before .new-events .ensures .0,
+      events-room _ _ _ _ _ (enough .if1 .left) (c .before .before .before .put .ensures ∙ ap (placed _ 0) (c .before .before .before .before .before .before .header .ensures)),
+    )
+
+sub-write-links : tie.Need-sub-write-links
+sub-write-links c = search needs
+
+part-write-links-start : tie.Need-part-write-links-start
+part-write-links-start c = search needs
+
+part-write-links-end : tie.Need-part-write-links-end
+part-write-links-end c = search needs
+
+write-links-requires : tie.Need-write-links-requires
+write-links-requires c κs =
+    let put = c .before .before .before .before .before .before .before in
+    let made = put .before .before .before in
+    let enough = made .before in
+    let counted = enough .before in
+    let start = counted .before .before .before .before .before in (
+      record { source = source-of _ (start .pre); grid = counted .before .before .ctrl .ensures },
+      counted .before .new-events .ensures .0,
+      links-part _ _ _ _ [] _ _ (start .pre) (counted .before .new-events .ensures .0) (counted .count-links .ensures .0) (enough .if1 .left)
+          (put .put .ensures ∙ ap (placed _ 0) (made .header .ensures)) (c .before .before .before .write-events .ensures),
+    )
+
+same-length : tie.Need-same-length
+same-length c = search needs
+
+returns-2 : tie.Need-returns-2
+returns-2 c =
+    let events = c .before .before .before .before .before .before in
+    let put = events .before .before .before .before in
+    let made = put .before .before .before in
+    let enough = made .before in
+    let counted = enough .before in
+    let start = counted .before .before .before .before .before in
+    let w = all-written _ _ _ _ _ _ _ (start .pre) (counted .before .new-events .ensures .0) (counted .count-links .ensures .0) (enough .if1 .left)
+    (put .put .ensures ∙ ap (placed _ 0) (made .header .ensures)) (events .write-events .ensures) (c .before .before .write-links .ensures) in
+    (w .answer, w .output)
+
+pub written-spec : {M : Type 1} → statement M
+written-spec =
+    tie.close
+    (tie.spec
+    ctrl-requires
+    new-events-requires
+    count-links-requires
+    mul-start
+    add-start
+    mul-length
+    add-length
+    returns
+    header-requires
+    slice-aggregate-put
+    put-requires
+    write-events-requires
+    sub-write-links
+    part-write-links-start
+    part-write-links-end
+    write-links-requires
+    same-length
+    returns-2)

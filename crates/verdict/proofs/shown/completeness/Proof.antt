@@ -1,0 +1,107 @@
+-- `shown::completeness` meets its contract: what the searches for rules 1 and 2 find or do not find. Assumes nothing.
+use mathlib.Core.Path.{_≡_, refl, ap, _∙_}
+use mathlib.Core.Bool.{false}
+use Rattle.relation.specs.Rel.{some, least, nodes}
+use Rattle.relation.specs.Bits.{bit}
+use Rattle.models.specs.Graph.{Base}
+use Rattle.models.specs.Rules.{anywhere, unread, unordered}
+use Rattle.verdict.specs.Base.{baseOf}
+use Rattle.verdict.specs.Shown.{FirstPair}
+use Rattle.verdict.proofs.ShownLaws.{event-found, event-none, pair-none, pair-bounds, hold-1, hold-2, tried-none, tried-1, tried-2}
+use borrow.Author.Needs.{needs}
+use Rattle.verdict.proofs.shown.completeness.Statement.{statement}
+use Rattle.verdict.proofs.shown.completeness.Tie as tie
+
+-- The base that the arguments hold, and the way back to them.
+abbrev base : tie.Start → Base
+base c = baseOf (c .args .t1) (c .args .t2)
+
+abbrev from-first : tie.After-first → tie.Start
+from-first c = c .before .before .before .before
+
+abbrev from-unordered : tie.After-unordered → tie.Start
+from-unordered c = from-first (c .before .before .before .before .before)
+
+-- What was searched for.
+unread-is : (c : tie.After-first) → bit (c .before .unread .result) ≡ unread nodes (base (from-first c))
+unfolding baseOf
+unread-is c = c .before .unread .ensures (base (from-first c)) refl refl
+
+holds-1 : (c : tie.Else1) → some nodes (unread nodes (base (from-first (c .before)))) ≡ false
+holds-1 c = event-none _ _ _ (c .before .first .ensures) (unread-is (c .before)) (c .if1 .left)
+
+unordered-is : (c : tie.After-unordered) → FirstPair (unordered nodes (base (from-unordered c))) (c .unordered .result .first) (c .unordered .result .second)
+unfolding baseOf
+unordered-is c = c .unordered .ensures (base (from-unordered c)) refl refl refl
+
+holds-2 : (c : tie.Else2) → anywhere nodes (unordered nodes (base (from-unordered (c .before .before)))) ≡ false
+holds-2 c = pair-none _ _ _ (unordered-is (c .before .before)) (c .if2 .left)
+
+array-copy-out-unread : tie.Need-array-copy-out-unread
+array-copy-out-unread c = search needs
+
+array-copy-out-unread-2 : tie.Need-array-copy-out-unread-2
+array-copy-out-unread-2 c = search needs
+
+unread-requires : tie.Need-unread-requires
+unread-requires c κs = search needs
+
+first-requires : tie.Need-first-requires
+first-requires c κs = search needs
+
+broken-event-requires : tie.Need-broken-event-requires
+broken-event-requires c κs = search needs
+
+returns : tie.Need-returns
+returns c =
+    λ M s e. let read = c .before .before in
+    tried-1 M _ s e _ (event-found _ _ _ (read .first .ensures) (unread-is read) (c .before .if1 .taken)) _
+    (read .first .ensures ∙ ap (least 64) (unread-is read)) (c .broken-event .ensures)
+
+array-copy-out-unordered : tie.Need-array-copy-out-unordered
+array-copy-out-unordered c = search needs
+
+array-copy-out-unordered-2 : tie.Need-array-copy-out-unordered-2
+array-copy-out-unordered-2 c = search needs
+
+array-copy-out-unordered-3 : tie.Need-array-copy-out-unordered-3
+array-copy-out-unordered-3 c = search needs
+
+unordered-requires : tie.Need-unordered-requires
+unordered-requires c κs = search needs
+
+broken-pair-requires : tie.Need-broken-pair-requires
+broken-pair-requires c κs = pair-bounds _ _ _ (unordered-is (c .before .before)) (c .if2 .taken)
+
+returns-2 : tie.Need-returns-2
+returns-2 c =
+    λ M s e. let writes = c .before .before .before in
+    tried-2 M _ s e _ (hold-1 M _ (holds-1 (writes .before .before .before .before))) _ _ (unordered-is writes)
+    (c .before .if2 .taken) (c .broken-pair .ensures)
+
+unbroken-requires : tie.Need-unbroken-requires
+unbroken-requires c κs = search needs
+
+returns-3 : tie.Need-returns-3
+returns-3 c =
+    λ M s e. let writes = c .before .before .before in
+    tried-none M _ s e _ 2 (c .unbroken .ensures) (hold-2 M _ (hold-1 M _ (holds-1 (writes .before .before .before .before))) (holds-2 (c .before)))
+
+pub completeness-spec : {M : Type 1} → statement M
+completeness-spec =
+    tie.close
+    (tie.spec
+    array-copy-out-unread
+    array-copy-out-unread-2
+    unread-requires
+    first-requires
+    broken-event-requires
+    returns
+    array-copy-out-unordered
+    array-copy-out-unordered-2
+    array-copy-out-unordered-3
+    unordered-requires
+    broken-pair-requires
+    returns-2
+    unbroken-requires
+    returns-3)
