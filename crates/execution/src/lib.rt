@@ -7,7 +7,7 @@ use relation::row;
 ghost use mathlib.Core.Path.{_≡_};
 ghost use Rattle.relation.specs.Bits.{bit, edge};
 ghost use Rattle.relation.specs.Rel.{nodes};
-ghost use Rattle.models.specs.Recording.{event, acquireFence, releaseFence};
+ghost use Rattle.models.specs.Recording.{event, ofClass, acquireFence, releaseFence};
 ghost use Rattle.models.specs.Graph.{base};
 ghost use Rattle.recording.specs.Decode.{decode};
 ghost use Rattle.recording.specs.Causes.{refusal};
@@ -25,27 +25,27 @@ pub fn events(file: &[u8]) -> [u8; 8]
 }
 
 // Fences of mode 1, 3 or 4.
-pub fn acquire_fences(file: &[u8]) -> [u8; 8]
-    requires { ⌜ refusal (now file) ≡ 0 ⌝ }
+pub fn acquire_fences(file: &[u8], fences: [u8; 8]) -> [u8; 8]
+    requires { ⌜ (refusal (now file) ≡ 0) × (bit fences ≡ ofClass (decode (now file)) 3) ⌝ }
     ensures { λ r. ⌜ bit r ≡ acquireFence (decode (now (file .entry))) ⌝ }
 {
     let some = row::or(
-        graph::members(file, Members::Mode(3, 1)),
-        graph::members(file, Members::Mode(3, 3)),
+        graph::among(file, fences, Members::Mode(3, 1)),
+        graph::among(file, fences, Members::Mode(3, 3)),
     );
-    row::or(some, graph::members(file, Members::Mode(3, 4)))
+    row::or(some, graph::among(file, fences, Members::Mode(3, 4)))
 }
 
 // Fences of mode 2, 3 or 4.
-pub fn release_fences(file: &[u8]) -> [u8; 8]
-    requires { ⌜ refusal (now file) ≡ 0 ⌝ }
+pub fn release_fences(file: &[u8], fences: [u8; 8]) -> [u8; 8]
+    requires { ⌜ (refusal (now file) ≡ 0) × (bit fences ≡ ofClass (decode (now file)) 3) ⌝ }
     ensures { λ r. ⌜ bit r ≡ releaseFence (decode (now (file .entry))) ⌝ }
 {
     let some = row::or(
-        graph::members(file, Members::Mode(3, 2)),
-        graph::members(file, Members::Mode(3, 3)),
+        graph::among(file, fences, Members::Mode(3, 2)),
+        graph::among(file, fences, Members::Mode(3, 3)),
     );
-    row::or(some, graph::members(file, Members::Mode(3, 4)))
+    row::or(some, graph::among(file, fences, Members::Mode(3, 4)))
 }
 
 // The sets: all events, initial writes, reads, writes, fences, acquire and exclusive reads, release and strong writes,
@@ -54,21 +54,24 @@ pub fn sets(file: &[u8]) -> [[u8; 8]; 14]
     requires { ⌜ refusal (now file) ≡ 0 ⌝ }
     ensures { λ r. ⌜ SetsOf (decode (now (file .entry))) r ⌝ }
 {
+    let reads = graph::members(file, Members::Class(1));
+    let writes = graph::members(file, Members::Class(2));
+    let fences = graph::members(file, Members::Class(3));
     [
         events(file),
         graph::members(file, Members::Initial),
-        graph::members(file, Members::Class(1)),
-        graph::members(file, Members::Class(2)),
-        graph::members(file, Members::Class(3)),
-        graph::members(file, Members::Mode(1, 1)),
-        graph::members(file, Members::Flagged(1)),
-        graph::members(file, Members::Mode(2, 2)),
-        graph::members(file, Members::Flagged(2)),
-        acquire_fences(file),
-        release_fences(file),
-        graph::members(file, Members::Mode(3, 4)),
-        graph::members(file, Members::Mode(3, 5)),
-        graph::members(file, Members::Mode(3, 6)),
+        reads,
+        writes,
+        fences,
+        graph::among(file, reads, Members::Mode(1, 1)),
+        graph::among(file, reads, Members::Flagged(1)),
+        graph::among(file, writes, Members::Mode(2, 2)),
+        graph::among(file, writes, Members::Flagged(2)),
+        acquire_fences(file, fences),
+        release_fences(file, fences),
+        graph::among(file, fences, Members::Mode(3, 4)),
+        graph::among(file, fences, Members::Mode(3, 5)),
+        graph::among(file, fences, Members::Mode(3, 6)),
     ]
 }
 

@@ -11,10 +11,10 @@ use borrow.Author.Tests.{eq-eqb, ne-eqb, eqb-true, lt-leb, le-ltb, ltb-true, leb
 use lib.Dec.{eqb, leb, ltb}
 use lib.ListN.{length, getD, set, replicate, length-set}
 use lib.Seq.{getD-set-same, getD-set-other}
-use Rattle.relation.specs.Rel.{Set, Rel, empty, none, single, union, intersection, product, inverse, either, both, some, below, plus, nodes}
+use Rattle.relation.specs.Rel.{least, Next, Set, Rel, empty, none, single, union, intersection, product, inverse, either, both, some, below, plus, nodes}
 use Rattle.relation.specs.Bits.{bit, edge}
 use Rattle.relation.proofs.Meaning.{Mem, and-left, and-right, and-both, or-either, or-left, or-right, some-sound, some-complete, mem-below, below-mem}
-use Rattle.relation.proofs.SetLaws.{and-false, upto, upto-none, upto-with, upto-keep, upto-skip, upto-done}
+use Rattle.relation.proofs.SetLaws.{and-false, Least, least-is, upto, upto-none, upto-with, upto-keep, upto-skip, upto-done}
 use Rattle.models.specs.Recording.{Recording, event, ofClass, ofMode, flagged, access, sameLocation, coStep}
 use Rattle.models.specs.Graph.{base}
 use Rattle.recording.specs.Layout.{events, locations, eventByte, Sized}
@@ -79,6 +79,58 @@ gap-initial f e g =
 
 pub members-gap : (f : List ℕ) (s : Members) (e : ℕ) → events f < e → e < 56 → membersOf f s e ≡ false
 members-gap f s e h g = members-none f e (gap-recorded f e h) (gap-initial f e g) s
+
+-- The members of a row that are in s, member by member: those below e are found, where e is a member or 64.
+pub record Found (row s t : Set) (e : ℕ) : Type 0 where
+  pub high : e ≤ 64
+  pub holds : t ≡ upto e (intersection row s)
+  pub member : e < 64 → row e ≡ true
+
+module _ (row s : Set) where
+  pub found-first : (t : Set) (e : ℕ) → t ≡ empty → e ≡ least 64 row → Found row s t e
+  unfolding intersection
+  found-first t e p q =
+      let l : Least 64 row e = subst (Least 64 row) (sym q) (least-is 64 row) in
+      record {
+        high = l .bound;
+        holds = upto-skip 0 e (intersection row s) t (omega arith) (p ∙ upto-none (intersection row s)) (λ j a b. ap (λ (x : Bool). x && s j) (l .smaller j b));
+        member = l .member;
+      }
+
+  module _ (t : Set) (e : ℕ) (w : Found row s t e) (h : e < 64) (n : ℕ) (next : Next row (e + 1) n) where
+    on-to : (u : Set) → u ≡ upto (e + 1) (intersection row s) → Found row s u n
+    unfolding intersection
+    on-to u p =
+        record {
+          high = next .high;
+          holds = upto-skip (e + 1) n (intersection row s) u (next .low) p (λ j a b. ap (λ (x : Bool). x && s j) (next .before j a b));
+          member = next .member;
+        }
+
+    pub found-with : s e ≡ true → (u : Set) → u ≡ union t (single e) → Found row s u n
+    unfolding intersection
+    found-with q u p = on-to u (p ∙ upto-with e (intersection row s) t (w .holds) (ap₂ _&&_ (w .member h) q))
+
+    pub found-keep : s e ≡ false → Found row s t n
+    unfolding intersection
+    found-keep q = on-to t (upto-keep e (intersection row s) t (w .holds) (ap (λ (x : Bool). row e && x) q ∙ and-false (row e)))
+
+  pub found-all : ((j : ℕ) → 64 ≤ j → row j ≡ false) → (t : Set) (e : ℕ) → 64 ≤ e → Found row s t e → t ≡ intersection row s
+  unfolding intersection
+  found-all out t e h w = upto-done e 64 (intersection row s) t h (w .holds) (λ j g. ap (λ (x : Bool). x && s j) (out j g))
+
+and-twice : (a b : Bool) → a && (a && b) ≡ a && b
+and-twice true b = refl
+and-twice false b = refl
+
+-- The events of a class that are of a mode, or flagged, are all of these.
+pub mode-among : (f : List ℕ) (k m : ℕ) (c : Set) → c ≡ ofClass (decode f) k → intersection c (ofMode (decode f) k m) ≡ ofMode (decode f) k m
+unfolding intersection ofMode
+mode-among f k m c p = fun-ext (λ e. ap (λ (s : Set). s e && (ofClass (decode f) k e && eqb (decode f .mode e) m)) p ∙ and-twice (ofClass (decode f) k e) (eqb (decode f .mode e) m))
+
+pub flag-among : (f : List ℕ) (k : ℕ) (c : Set) → c ≡ ofClass (decode f) k → intersection c (flagged (decode f) k) ≡ flagged (decode f) k
+unfolding intersection flagged
+flag-among f k c p = fun-ext (λ e. ap (λ (s : Set). s e && (ofClass (decode f) k e && eqb (decode f .flag e) 1)) p ∙ and-twice (ofClass (decode f) k e) (eqb (decode f .flag e) 1))
 
 -- Membership by cases.
 module _ (f : List ℕ) (s : Members) (e : ℕ) (b : Bool) where

@@ -11,7 +11,7 @@ ghost use mathlib.Core.Bool.{true};
 ghost use Prim.Native.Nat.{ℕ, _≤_, _<_};
 ghost use lib.Dec.{eqb};
 ghost use Rattle.relation.specs.Bits.{bit, edge};
-ghost use Rattle.relation.specs.Rel.{nodes, inverse};
+ghost use Rattle.relation.specs.Rel.{nodes, inverse, intersection};
 ghost use Rattle.models.specs.Recording.{sameLocation, coStep};
 ghost use Rattle.models.specs.Graph.{base};
 ghost use Rattle.recording.specs.Layout.{events, Sized};
@@ -52,6 +52,23 @@ pub fn members(file: &[u8], s: Members) -> [u8; 8]
             e = 55;
         }
         e += 1;
+    }
+    r
+}
+
+// The events of a row that are in s.
+pub fn among(file: &[u8], within: [u8; 8], s: Members) -> [u8; 8]
+    requires { ⌜ Sized (now file) ⌝ }
+    ensures { λ r. ⌜ bit r ≡ intersection (bit within) (membersOf (now (file .entry)) s) ⌝ }
+{
+    let mut r = row::none();
+    let mut e = row::first(within);
+    while e < 64 {
+        if is_member(file, s, e) {
+            let z = row::with(r, e);
+            r = z;
+        }
+        e = row::next(within, e + 1);
     }
     r
 }

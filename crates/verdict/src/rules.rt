@@ -41,7 +41,7 @@ pub fn unordered(writes: Row, loc: Grid, co: Grid) -> Pair
         if row::has(writes, a) {
             let peers = row::and(writes, loc[a]);
             let unsettled = row::minus(peers, settled[a]);
-            b = 0;
+            b = row::first(unsettled);
             while b < 64 {
                 if row::has(unsettled, b) {
                     break 'pairs;

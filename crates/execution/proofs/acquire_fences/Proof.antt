@@ -4,38 +4,34 @@ use Rattle.relation.specs.Rel.{union}
 use Rattle.models.specs.Recording.{acquireFence}
 use Rattle.recording.specs.Sets.{membersOf}
 use Rattle.recording.proofs.Loaded.{loaded-sized}
+use Rattle.recording.proofs.GraphLaws.{mode-among}
 use borrow.Author.Needs.{needs}
 use Rattle.execution.proofs.acquire_fences.Statement.{statement}
 use Rattle.execution.proofs.acquire_fences.Tie as tie
 
-members-requires : tie.Need-members-requires
-members-requires c κs = search (needs, loaded-sized)
+among-requires : tie.Need-among-requires
+among-requires c κs = search (needs, loaded-sized)
 
-members-requires-2 : tie.Need-members-requires-2
-members-requires-2 c κs = search (needs, loaded-sized)
+among-requires-2 : tie.Need-among-requires-2
+among-requires-2 c κs = search (needs, loaded-sized)
 
 or-requires : tie.Need-or-requires
 or-requires c κs = search needs
 
-members-requires-3 : tie.Need-members-requires-3
-members-requires-3 c κs = search (needs, loaded-sized)
+among-requires-3 : tie.Need-among-requires-3
+among-requires-3 c κs = search (needs, loaded-sized)
 
 or-requires-2 : tie.Need-or-requires-2
 or-requires-2 c κs = search needs
 
 returns : tie.Need-returns
 unfolding acquireFence union membersOf
-returns c =
+returns c = 
+    let fences = c .before .before .before .before .before .before .pre .1 in
     c .or2 .ensures
-    ∙ ap₂ union (c .before .before .or .ensures ∙ ap₂ union (c .before .before .before .before .members .ensures) (c .before .before .before .members2 .ensures)) (c .before .members3 .ensures)
+    ∙ ap₂ union (c .before .before .or .ensures ∙ ap₂ union (c .before .before .before .before .among .ensures ∙ mode-among _ _ _ _ fences) (c .before .before .before .among2 .ensures ∙ mode-among _ _ _ _ fences)) (c .before .among3 .ensures ∙ mode-among _ _ _ _ fences)
 
 pub acquire-fences-spec : {M : Type 1} → statement M
 acquire-fences-spec =
     tie.close
-    (tie.spec
-    members-requires
-    members-requires-2
-    or-requires
-    members-requires-3
-    or-requires-2
-    returns)
+    (tie.spec among-requires among-requires-2 or-requires among-requires-3 or-requires-2 returns)

@@ -3,8 +3,9 @@ use Prim.Native.Nat.{ℕ, _-_, _≤_, _<_}
 use mathlib.Core.Path.{_≡_, sym, subst, _∙_}
 use mathlib.Core.Logic.{inl, inr}
 use native.Mathlib.Omega.{arith}
-use borrow.Author.Count.{below-none, below-more}
+use borrow.Author.Count.{below-more}
 use Rattle.relation.specs.Rel.{Rel}
+use Rattle.relation.proofs.SetLaws.{Least, least-is}
 use Rattle.verdict.specs.Shown.{FirstPair}
 use mathlib.Core.Bool.{false}
 use Rattle.relation.specs.Bits.{bit, edge}
@@ -58,8 +59,11 @@ array-copy-out-minus c = search needs
 minus-requires : tie.Need-minus-requires Inv-loop μ-loop Inv-pairs μ-pairs
 minus-requires c κs = search needs
 
+first-requires : tie.Need-first-requires Inv-loop μ-loop Inv-pairs μ-pairs
+first-requires c κs = search needs
+
 loop-holds : tie.Need-loop-holds Inv-loop μ-loop Inv-pairs μ-pairs
-loop-holds c = (search needs, below-none _)
+loop-holds c = (let l = subst (Least 64 _) (sym (c .first .ensures)) (least-is 64 _) in (l .bound, l .smaller))
 
 has-requires-2 : tie.Need-has-requires-2 Inv-loop μ-loop Inv-pairs μ-pairs
 has-requires-2 c κs = search needs
@@ -88,7 +92,7 @@ pairs-again c =
     let turn = c .before .before in
     elim (c .if1 .came) [
       | inl w ↦ passed-more _ _ (turn .before .pairs .inv) (turn .pairs-test .taken)
-          (λ x h. unsettled-yes _ _ _ _ _ _ (sym (c .before .has .ensures) ∙ w .0 .taken) (w .2 .ensures) (w .4 .ensures) x ∙ w .5 .inv .1 x (omega (arith, w .6 .left)))
+          (λ x h. unsettled-yes _ _ _ _ _ _ (sym (c .before .has .ensures) ∙ w .0 .taken) (w .2 .ensures) (w .4 .ensures) x ∙ w .6 .inv .1 x (omega (arith, w .7 .left)))
       | inr w ↦ passed-more _ _ (turn .before .pairs .inv) (turn .pairs-test .taken)
           (λ x h. unsettled-no _ _ _ _ (sym (c .before .has .ensures) ∙ w .0 .left) x)
     ]
@@ -104,7 +108,7 @@ returns-2 : tie.Need-returns-2 Inv-loop μ-loop Inv-pairs μ-pairs
 unfolding edge
 returns-2 c =
     λ B p q r. let loop = c .before .before .before in
-    let row = loop .before in
+    let row = loop .before .before in
     let test = row .before .before .before .before .before in
     let turn = test .before in
     let made = turn .before .before in
@@ -134,6 +138,7 @@ unordered-spec =
     mul-minus
     array-copy-out-minus
     minus-requires
+    first-requires
     loop-holds
     has-requires-2
     add-b
