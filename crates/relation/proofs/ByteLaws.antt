@@ -175,10 +175,6 @@ pub bit-without : (row : List ℕ) (j : ℕ) → length row ≡ 8 → j < 64
 unfolding difference single
 bit-without row j l h = rw (low-mod j) (fun-ext (bit-changed bitBut but on-but but-false row j l h))
 
-pub bit-has : (row : List ℕ) (j : ℕ) → j < 64 → eqb (bitAnd (getD row (j / 8) 0 / 2 ^ low j) 1) 1 ≡ bit row j
-unfolding on
-bit-has row j h = rw (low-mod j, and-mask (getD row (j / 8) 0 / 2 ^ (j % 8)) 1, bit-in row j h)
-
 -- Rows of eight bytes, made byte by byte with f: k of them are done.
 pub record Bytes (f : ℕ → ℕ → ℕ) (a b r : List ℕ) (k : ℕ) : Type 0 where
   pub long : length r ≡ 8

@@ -25,11 +25,6 @@ pub edge-out : (g : List (List ℕ)) → length g ≡ 64 → (m : ℕ) → 64 �
 unfolding edge
 edge-out g l m h = ap bit (List·getD-eq-default g [] (omega arith)) ∙ bit-nil
 
--- No row holds a number from 64 on.
-pub inverse-out : (g : List (List ℕ)) (m : ℕ) → 64 ≤ m → inverse (edge g) m ≡ empty
-unfolding inverse edge empty
-inverse-out g m h = fun-ext (λ j. bit-out (getD g j []) m h)
-
 -- A grid made row by row: below k its rows hold f, from k on still what they held at first, e.
 pub record Rows (f e : Rel) (h : List (List ℕ)) (k : ℕ) : Type 0 where
   pub long : length h ≡ 64
@@ -221,9 +216,6 @@ unfolding empty
 none-in row n e h =
     let l : Least 64 (bit row) n = subst (Least 64 (bit row)) (sym e) (least-is 64 (bit row)) in
     fun-ext (λ j. elim (decLt j 64) [ yes p ↦ l .smaller j (omega arith) | no p ↦ bit-out row j (omega (arith, p)) ])
-
-pub image-kept : (s : Set) (r : Rel) → s ≡ empty → s ≡ image nodes s r
-image-kept s r p = p ∙ sym (image-out nodes s r p)
 
 pub through-none : (k : ℕ) (r : Rel) → r k ≡ empty → r ≡ through k r
 unfolding through empty

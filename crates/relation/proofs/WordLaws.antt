@@ -68,7 +68,7 @@ on-word (b ∷ row) h j =
 -- The eight bytes of a row, as the code adds them up.
 summed : (row : List ℕ) → length row ≡ 8
     → getD row 0 0 + 256 * getD row 1 0 + 65536 * getD row 2 0 + 16777216 * getD row 3 0 + 4294967296 * getD row 4 0
-        + 1099511627776 * getD row 5 0 + 281474976710656 * getD row 6 0 + 72057594037927936 * getD row 7 0 ≡ word row
+    + 1099511627776 * getD row 5 0 + 281474976710656 * getD row 6 0 + 72057594037927936 * getD row 7 0 ≡ word row
 unfolding word
 summed (a ∷ b ∷ c ∷ d ∷ e ∷ f ∷ g ∷ h ∷ []) l = omega arith
 summed [] l = absurd (omega (arith, l))
@@ -83,7 +83,7 @@ summed (a ∷ b ∷ c ∷ d ∷ e ∷ f ∷ g ∷ h ∷ i ∷ row) l = absurd (o
 
 pub bit-word : (row : List ℕ) → length row ≡ 8 → ((k : ℕ) → getD row k 0 < 256)
     → bit row ≡ on (getD row 0 0 + 256 * getD row 1 0 + 65536 * getD row 2 0 + 16777216 * getD row 3 0 + 4294967296 * getD row 4 0
-        + 1099511627776 * getD row 5 0 + 281474976710656 * getD row 6 0 + 72057594037927936 * getD row 7 0)
+    + 1099511627776 * getD row 5 0 + 281474976710656 * getD row 6 0 + 72057594037927936 * getD row 7 0)
 bit-word row l h =
     fun-ext
     (λ j. elim (decLt j 64) [
@@ -170,7 +170,7 @@ count-first (suc n) s = go (s (suc n)) (count-first n s)
   where
     go : (b : Bool) → count (suc n) s ≡ digit (s 0) + count n (λ j. s (suc j))
         → elim b [ true ↦ suc (count (suc n) s) | false ↦ count (suc n) s ]
-            ≡ digit (s 0) + elim b [ true ↦ suc (count n (λ j. s (suc j))) | false ↦ count n (λ j. s (suc j)) ]
+        ≡ digit (s 0) + elim b [ true ↦ suc (count n (λ j. s (suc j))) | false ↦ count n (λ j. s (suc j)) ]
     go true e = omega (arith, e)
     go false e = e
 

@@ -1,15 +1,15 @@
 -- Laws of the functions over links: the rows of their sources, and how many there are. Assumes nothing.
-use mathlib.Core.Path.{_≡_, refl, sym, ap, ap₂, _∙_, fun-ext}
+use mathlib.Core.Path.{_≡_, refl, sym, ap, ap₂, subst, _∙_, fun-ext}
 use mathlib.Core.Bool.{Bool, true, false, _&&_, _||_}
 use mathlib.Core.List.{List, []}
 use mathlib.Core.Logic.{_⊎_, inl, inr}
-use Prim.Native.Nat.{ℕ, suc, _+_, _*_, _<_, _≤_}
+use Prim.Native.Nat.{ℕ, zero, suc, _+_, _*_, _<_, _≤_}
 use native.Mathlib.Numerals.{add-one}
 use native.Mathlib.Omega.{arith}
 use native.Mathlib.Decide.{ℕ-discrete}
 use borrow.Author.Tests.{le-leb, lt-leb, ne-eqb}
 use lib.Dec.{eqb, leb}
-use lib.ListN.{length, getD, set, length-set}
+use lib.ListN.{length, getD, set, replicate, length-set}
 use lib.Seq.{getD-set-same, getD-set-other}
 use Rattle.relation.specs.Rel.{Set, Rel, empty, single, union, intersection, either, inverse, some, image, chain, count, nodes}
 use Rattle.relation.specs.Bits.{bit}
@@ -27,7 +27,7 @@ use Rattle.translation.specs.Contents.{Contents, contents}
 use Rattle.translation.specs.Translate.{flagged, exclusive, newEvents, after, follows, controlled, fromExclusive, fromCasdep, newLink, translated}
 use Rattle.translation.specs.Encode.{isLink, linksBefore, linksUpTo}
 use Rattle.translation.specs.Answer.{chip}
-use Rattle.translation.specs.Parts.{Source, NewEvent, Ready, RowsInto, targets, ctrlInto}
+use Rattle.translation.specs.Parts.{Source, NewEvent, RowsInto, Ends, targets, ctrlInto}
 use Rattle.translation.proofs.Counting.{count-add, count-same, count-mono}
 use Rattle.translation.proofs.TranslateLaws as law
 use Rattle.translation.proofs.TranslateLaws.{flagged-is}
@@ -225,29 +225,56 @@ module _ (f : List ℕ) (b : ℕ) where
       (w .same ∙ ap (λ (x : ℕ). linksBefore (chip f) x) place, links-few t m w (omega arith))
 
 -- The links into events below b are counted.
-pub record EventsCounted (f : List ℕ) (g : Rel) (n b m : ℕ) : Type 0 where
-  pub ready : Ready f g
+pub record EventsCounted (f : List ℕ) (n b m : ℕ) : Type 0 where
+  pub source : Source f
   pub events : n ≡ newEvents (contents f)
   pub low : 1 ≤ b
   pub same : m ≡ linksBefore (chip f) (512 * b)
 
-module _ (f : List ℕ) (g : Rel) (n : ℕ) where
-  pub events-start : Ready f g → n ≡ newEvents (contents f) → EventsCounted f g n 1 0
-  events-start r e = record { ready = r; events = e; low = omega arith; same = sym (none-into-zero (chip f) (links-fit f (r .source))) }
+module _ (f : List ℕ) (n : ℕ) where
+  pub events-start : Source f → n ≡ newEvents (contents f) → EventsCounted f n 1 0
+  events-start r e = record { source = r; events = e; low = omega arith; same = sym (none-into-zero (chip f) (links-fit f r)) }
 
-  pub event-counted : (b m : ℕ) → EventsCounted f g n b m → b ≤ n → NewEvent (contents f) b
+  pub event-counted : (b m : ℕ) → EventsCounted f n b m → b ≤ n → NewEvent (contents f) b
   event-counted b m w h = record { low = w .low; high = omega (arith, w .events) }
 
-  pub events-more : (b m x : ℕ) → EventsCounted f g n b m → x ≡ linksUpTo (chip f) b → EventsCounted f g n (b + 1) x
+  pub events-more : (b m x : ℕ) → EventsCounted f n b m → x ≡ linksUpTo (chip f) b → EventsCounted f n (b + 1) x
   events-more b m x w e =
       record {
-        ready = w .ready;
+        source = w .source;
         events = w .events;
         low = omega arith;
         same = e ∙ ap (λ (y : ℕ). linksBefore (chip f) (512 * y)) (sym (add-one b));
       }
 
-  pub events-all : (b m : ℕ) → EventsCounted f g n b m → n + 1 ≡ b → (m ≡ linksUpTo (chip f) n) × (m ≤ 232)
-  events-all b m w e =
-      let same = w .same ∙ ap (λ (y : ℕ). linksBefore (chip f) (512 * y)) (sym e ∙ add-one n) in
-      (same, omega (arith, same, most-links f (w .ready .source) n))
+  -- The counts that stand in the array.
+  pub record Ending (b m : ℕ) (at : List ℕ) : Type 0 where
+    pub counted : EventsCounted f n b m
+    pub long : length at ≡ 64
+    pub upto : (k : ℕ) → k < b → getD at k 0 ≡ linksUpTo (chip f) k
+
+  pub ending-start : Source f → n ≡ newEvents (contents f) → Ending 1 0 (replicate 64 0)
+  ending-start r e =
+      let c = events-start r e in
+      record { counted = c; long = refl; upto = λ k h. first k h (c .same) }
+    where
+      first : (k : ℕ) → k < 1 → 0 ≡ linksBefore (chip f) (512 * 1) → getD {A = ℕ} (replicate 64 0) k 0 ≡ linksUpTo (chip f) k
+      first zero h p = p
+      first (suc k) h p = absurd (omega arith)
+
+  pub ending-more : (b m x : ℕ) (at : List ℕ) → Ending b m at → b < 64 → x ≡ linksUpTo (chip f) b → Ending (b + 1) x (set at b x)
+  ending-more b m x at w h e =
+      record {
+        counted = events-more b m x (w .counted) e;
+        long = length-set at b x ∙ w .long;
+        upto = λ k g. elim (ℕ-discrete b k) [
+          | yes p ↦ subst (λ (i : ℕ). getD (set at b x) i 0 ≡ linksUpTo (chip f) i) p (getD-set-same at b x 0 (omega (arith, w .long)) ∙ e)
+          | no d ↦ getD-set-other at b k x 0 (λ q. d (sym q)) ∙ w .upto k (omega (arith, d))
+        ];
+      }
+
+  pub ending-all : (b m : ℕ) (at : List ℕ) → Ending b m at → n < b → Ends f n at
+  ending-all b m at w h = record { upto = λ k g. w .upto k (omega arith) }
+
+  pub ends-few : Source f → (at : List ℕ) (b : ℕ) → Ends f n at → b ≤ n → getD at b 0 ≤ 232
+  ends-few s at b w h = omega (arith, w .upto b h, most-links f s b)

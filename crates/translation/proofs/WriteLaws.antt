@@ -45,19 +45,19 @@ module _ (f : List ℕ) (s : Source f) where
   event-is e a c m g l x y first p1 p2 p3 p4 p5 p6 p7 p8 = eight p1 p2 p3 p4 p5 p6 p7 p8
 
 -- Event records 1 to e - 1 stand behind the header.
-pub record EventsWritten (f : List ℕ) (g : Rel) (n : ℕ) (out₀ : List ℕ) (e before : ℕ) (out : List ℕ) : Type 0 where
-  pub counted : EventsCounted f g n e before
+pub record EventsWritten (f : List ℕ) (n : ℕ) (out₀ : List ℕ) (e before : ℕ) (out : List ℕ) : Type 0 where
+  pub counted : EventsCounted f n e before
   pub room : 8 + 8 * n ≤ length out₀
   pub long : length out ≡ length out₀
   pub done : out ≡ placed out₀ 8 (eventRecords (chip f) e)
 
-module _ (f : List ℕ) (g : Rel) (n : ℕ) (out₀ : List ℕ) where
-  pub written-none : Ready f g → n ≡ newEvents (contents f) → 8 + 8 * n ≤ length out₀ → EventsWritten f g n out₀ 1 0 out₀
+module _ (f : List ℕ) (n : ℕ) (out₀ : List ℕ) where
+  pub written-none : Source f → n ≡ newEvents (contents f) → 8 + 8 * n ≤ length out₀ → EventsWritten f n out₀ 1 0 out₀
   unfolding eventRecords records
-  written-none y e r = record { counted = events-start f g n y e; room = r; long = refl; done = placed-nil out₀ 8 }
+  written-none y e r = record { counted = events-start f n y e; room = r; long = refl; done = placed-nil out₀ 8 }
 
-  pub written-more : (e before : ℕ) (out : List ℕ) (last : ℕ) (bytes out′ : List ℕ) → EventsWritten f g n out₀ e before out → e ≤ n
-      → last ≡ linksUpTo (chip f) e → bytes ≡ eventRecord (chip f) e → out′ ≡ placed out (8 * e) bytes → EventsWritten f g n out₀ (e + 1) last out′
+  pub written-more : (e before : ℕ) (out : List ℕ) (last : ℕ) (bytes out′ : List ℕ) → EventsWritten f n out₀ e before out → e ≤ n
+      → last ≡ linksUpTo (chip f) e → bytes ≡ eventRecord (chip f) e → out′ ≡ placed out (8 * e) bytes → EventsWritten f n out₀ (e + 1) last out′
   unfolding eventRecords
   written-more e before out last bytes out′ w h p q r =
       let c = chip f in
@@ -69,13 +69,13 @@ module _ (f : List ℕ) (g : Rel) (n : ℕ) (out₀ : List ℕ) where
       let done = r ∙ ap₂ (λ (d b : List ℕ). placed d (8 * e) b) (w .done) q
       ∙ placed-placed out₀ 8 (eventRecords c e) (eventRecord c e) (8 * e) (omega (arith, w .room)) (omega arith) ∙ ap (placed out₀ 8) more in
       record {
-        counted = events-more f g n e before last (w .counted) p;
+        counted = events-more f n e before last (w .counted) p;
         room = w .room;
         long = ap length done ∙ length-placed out₀ 8 (eventRecords c (e + 1)) (omega (arith, w .room, events-length c e, ap (λ (x : ℕ). length (eventRecords c x)) (add-one e)));
         done = done;
       }
 
-  pub written-all : (e before : ℕ) (out : List ℕ) → EventsWritten f g n out₀ e before out → n + 1 ≡ e → out ≡ placed out₀ 8 (eventRecords (chip f) (suc n))
+  pub written-all : (e before : ℕ) (out : List ℕ) → EventsWritten f n out₀ e before out → n + 1 ≡ e → out ≡ placed out₀ 8 (eventRecords (chip f) (suc n))
   written-all e before out w p = w .done ∙ ap (λ (x : ℕ). placed out₀ 8 (eventRecords (chip f) x)) (sym p ∙ add-one n)
 
 -- The links from the first a sources of a row are written.
@@ -283,8 +283,8 @@ module _ (f : List ℕ) (b n last : ℕ) (part₀ : List ℕ) where
       (links-all f b t m (w .counted) e .0, w .done ∙ ap (λ (x : ℕ). placed part₀ (4 * n) (linkStretch (chip f) (512 * b) x)) place)
 
 -- The links into events below b are written.
-pub record LinksWritten (f : List ℕ) (g : Rel) (n : ℕ) (part₀ : List ℕ) (b m : ℕ) (part : List ℕ) : Type 0 where
-  pub counted : EventsCounted f g n b m
+pub record LinksWritten (f : List ℕ) (n : ℕ) (part₀ : List ℕ) (b m : ℕ) (part : List ℕ) : Type 0 where
+  pub counted : EventsCounted f n b m
   pub room : 4 * linksUpTo (chip f) n ≤ length part₀
   pub long : length part ≡ length part₀
   pub done : part ≡ placed part₀ 0 (linkRecords (chip f) (512 * b))
@@ -293,21 +293,21 @@ no-bytes : (l : List ℕ) → length l ≡ 0 → l ≡ []
 no-bytes [] e = refl
 no-bytes (x ∷ l) e = absurd (omega arith)
 
-module _ (f : List ℕ) (g : Rel) (n : ℕ) (part₀ : List ℕ) where
-  pub links-none : Ready f g → n ≡ newEvents (contents f) → 4 * linksUpTo (chip f) n ≤ length part₀ → LinksWritten f g n part₀ 1 0 part₀
+module _ (f : List ℕ) (n : ℕ) (part₀ : List ℕ) where
+  pub links-none : Source f → n ≡ newEvents (contents f) → 4 * linksUpTo (chip f) n ≤ length part₀ → LinksWritten f n part₀ 1 0 part₀
   links-none y e r =
       let c = chip f in
-      let start = events-start f g n y e in
+      let start = events-start f n y e in
       let empty : linkRecords c 512 ≡ [] = no-bytes (linkRecords c 512) (links-length c 512 ∙ omega (arith, start .same)) in
       record { counted = start; room = r; long = refl; done = placed-nil part₀ 0 ∙ ap (placed part₀ 0) (sym empty) }
 
-  pub links-room : (b m : ℕ) (part : List ℕ) → LinksWritten f g n part₀ b m part → b ≤ n → 4 * linksUpTo (chip f) b ≤ length part
+  pub links-room : (b m : ℕ) (part : List ℕ) → LinksWritten f n part₀ b m part → b ≤ n → 4 * linksUpTo (chip f) b ≤ length part
   links-room b m part w h =
       let c = chip f in
       omega (arith, count-mono (512 * suc b) (512 * suc n) (isLink c) (omega arith), w .room, w .long)
 
-  pub links-written : (b m x : ℕ) (part part′ : List ℕ) → LinksWritten f g n part₀ b m part → b ≤ n → x ≡ linksUpTo (chip f) b
-      → part′ ≡ placed part (4 * m) (linkStretch (chip f) (512 * b) 512) → LinksWritten f g n part₀ (b + 1) x part′
+  pub links-written : (b m x : ℕ) (part part′ : List ℕ) → LinksWritten f n part₀ b m part → b ≤ n → x ≡ linksUpTo (chip f) b
+      → part′ ≡ placed part (4 * m) (linkStretch (chip f) (512 * b) 512) → LinksWritten f n part₀ (b + 1) x part′
   unfolding linkRecords linkStretch
   links-written b m x part part′ w h p q =
       let c = chip f in
@@ -320,11 +320,11 @@ module _ (f : List ℕ) (g : Rel) (n : ℕ) (part₀ : List ℕ) where
       ∙ placed-placed part₀ 0 (linkRecords c (512 * b)) (linkStretch c (512 * b) 512) (4 * m) (omega (arith, w .room, links-length c (512 * b))) (omega (arith, links-length c (512 * b), w .counted .same))
       ∙ ap (placed part₀ 0) more in
       record {
-        counted = events-more f g n b m x (w .counted) p;
+        counted = events-more f n b m x (w .counted) p;
         room = w .room;
         long = ap length done ∙ length-placed part₀ 0 (linkRecords c (512 * (b + 1))) (omega (arith, w .room, links-length c (512 * (b + 1))));
         done = done;
       }
 
-  pub links-done : (b m : ℕ) (part : List ℕ) → LinksWritten f g n part₀ b m part → n + 1 ≡ b → part ≡ placed part₀ 0 (linkRecords (chip f) (512 * suc n))
+  pub links-done : (b m : ℕ) (part : List ℕ) → LinksWritten f n part₀ b m part → n + 1 ≡ b → part ≡ placed part₀ 0 (linkRecords (chip f) (512 * suc n))
   links-done b m part w e = w .done ∙ ap (λ (x : ℕ). placed part₀ 0 (linkRecords (chip f) (512 * x))) (sym e ∙ add-one n)

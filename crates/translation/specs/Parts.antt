@@ -10,8 +10,8 @@ use Rattle.relation.specs.Bits.{bit}
 use Rattle.recording.specs.Layout.{kind}
 use Rattle.recording.specs.Causes.{refusal}
 use Rattle.translation.specs.Contents.{Contents, contents}
-use Rattle.translation.specs.Translate.{newEvents, follows, fromExclusive, fromCasdep, newLink}
-use Rattle.translation.specs.Encode.{chained, records, isLink, linkRecord}
+use Rattle.translation.specs.Translate.{newEvents, follows, fromExclusive, fromCasdep, newLink, translated}
+use Rattle.translation.specs.Encode.{chained, records, isLink, linkRecord, linksUpTo}
 
 -- A source file that loads.
 pub record Source (f : List ℕ) : Type 0 where
@@ -45,6 +45,10 @@ module _ (s : Contents) where
 pub record Ready (f : List ℕ) (ctrl : Rel) : Type 0 where
   pub source : Source f
   pub grid : ctrl ≡ ctrlInto (contents f)
+
+-- How many links of the translation there are into events 1 to b, for each b up to n.
+pub record Ends (f : List ℕ) (n : ℕ) (at : List ℕ) : Type 0 where
+  pub upto : (b : ℕ) → b ≤ n → getD at b 0 ≡ linksUpTo (translated (contents f)) b
 
 -- The record of the link of type t from a, where n links come before those of the row, and `last` is the number of the last into the same event.
 unfoldable pub rowRecord : ℕ → ℕ → ℕ → Set → ℕ → List ℕ

@@ -38,7 +38,8 @@ pub fn written(file: &[u8], out: &mut [u8]) -> Translation
 {
     let ctrl = link::ctrl(file);
     let n = event::new_events(file);
-    let m = link::count_links(file, ctrl, n);
+    let ends = link::ends(file, ctrl, n);
+    let m = ends[n] as usize;
     let start = 8 + 8 * n;
     let length = start + 4 * m;
     if out.len() < length {
@@ -46,7 +47,7 @@ pub fn written(file: &[u8], out: &mut [u8]) -> Translation
     }
     let header = write::header(file, n, m);
     output::put(out, 0, &header);
-    write::write_events(out, file, ctrl, n);
-    write::write_links(&mut out[start..], file, ctrl, n);
+    write::write_events(out, file, ends, n);
+    write::write_links(&mut out[start..], file, ctrl, ends, n);
     Translation::Written(length)
 }

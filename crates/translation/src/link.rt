@@ -13,7 +13,7 @@ ghost use Rattle.translation.specs.Contents.{contents};
 ghost use Rattle.translation.specs.Translate.{newEvents, controlled, newLink};
 ghost use Rattle.translation.specs.Encode.{linksBefore, linksUpTo};
 ghost use Rattle.translation.specs.Answer.{chip};
-ghost use Rattle.translation.specs.Parts.{Source, NewEvent, Ready, RowsInto, targets, ctrlInto};
+ghost use Rattle.translation.specs.Parts.{Source, NewEvent, Ready, RowsInto, Ends, targets, ctrlInto};
 
 // The event that the ctrl link from the exclusive read r goes to: the one directly after r, or after its write where r has both rmw and
 // data to it.
@@ -97,17 +97,19 @@ pub fn links_up_to(file: &[u8], ctrl: [[u8; 8]; 64], b: usize, n: usize) -> usiz
     m
 }
 
-// How many links there are, where there are n events.
-pub fn count_links(file: &[u8], ctrl: [[u8; 8]; 64], n: usize) -> usize
+// How many links there are into events 1 to b, for each event b of n.
+pub fn ends(file: &[u8], ctrl: [[u8; 8]; 64], n: usize) -> [u8; 64]
     requires { ⌜ Ready (now file) (edge ctrl) × (n ≡ newEvents (contents (now file))) ⌝ }
-    ensures { λ r. ⌜ (r ≡ linksUpTo (chip (now (file .entry))) n) × (r ≤ 232) ⌝ }
+    ensures { λ r. ⌜ Ends (now (file .entry)) n r ⌝ }
 {
+    let mut at = [0u8; 64];
     let mut m: usize = 0;
     let mut b: usize = 1;
     while b <= n {
         let z = links_up_to(file, ctrl, b, m);
+        at[b] = z as u8;
         m = z;
         b += 1;
     }
-    m
+    at
 }

@@ -13,7 +13,7 @@ ghost use Rattle.translation.specs.Contents.{contents};
 ghost use Rattle.translation.specs.Translate.{newEvents};
 ghost use Rattle.translation.specs.Encode.{chained, linksBefore, linksUpTo, header, eventRecord, eventRecords, linkRecords, records};
 ghost use Rattle.translation.specs.Answer.{chip};
-ghost use Rattle.translation.specs.Parts.{Source, NewEvent, Ready, placed, rowRecord, linkStretch};
+ghost use Rattle.translation.specs.Parts.{Source, NewEvent, Ready, Ends, placed, rowRecord, linkStretch};
 
 // The header: kind 2, the new N and M, the old L and heads.
 pub fn header(file: &[u8], n: usize, m: usize) -> [u8; 8]
@@ -50,14 +50,14 @@ pub fn event_record(file: &[u8], e: usize, first: usize) -> [u8; 8]
 }
 
 // Writes the event records behind the header, where there are n events.
-pub fn write_events(out: &mut [u8], file: &[u8], ctrl: [[u8; 8]; 64], n: usize)
-    requires { ⌜ Ready (now file) (edge ctrl) × (n ≡ newEvents (contents (now file))) × (8 + 8 * n ≤ length (now out)) ⌝ }
+pub fn write_events(out: &mut [u8], file: &[u8], ends: [u8; 64], n: usize)
+    requires { ⌜ Source (now file) × Ends (now file) n ends × (n ≡ newEvents (contents (now file))) × (8 + 8 * n ≤ length (now out)) ⌝ }
     ensures { λ _. ⌜ now (out .exit) ≡ placed (now (out .entry)) 8 (eventRecords (chip (now (file .entry))) (suc n)) ⌝ }
 {
     let mut before: usize = 0;
     let mut e: usize = 1;
     while e <= n {
-        let last = link::links_up_to(file, ctrl, e, before);
+        let last = ends[e] as usize;
         let bytes = event_record(file, e, output::chained(last, before));
         output::put(out, 8 * e, &bytes);
         before = last;
@@ -82,12 +82,18 @@ pub fn write_row(part: &mut [u8], row: [u8; 8], t: usize, last: usize, n: usize)
     m
 }
 
-// Writes the links into b, where n links come before them. Answers how many links then are written.
-pub fn write_into(part: &mut [u8], file: &[u8], ctrl: [[u8; 8]; 64], b: usize, n: usize) -> usize
-    requires { ⌜ Ready (now file) (edge ctrl) × NewEvent (contents (now file)) b × (n ≡ linksBefore (chip (now file)) (512 * b)) × (4 * linksUpTo (chip (now file)) b ≤ length (now part)) ⌝ }
+// Writes the links into b, where n links come before them and last is the number of the last. Answers how many links then are written.
+pub fn write_into(
+    part: &mut [u8],
+    file: &[u8],
+    ctrl: [[u8; 8]; 64],
+    b: usize,
+    n: usize,
+    last: usize,
+) -> usize
+    requires { ⌜ (last ≡ linksUpTo (chip (now file)) b) × Ready (now file) (edge ctrl) × NewEvent (contents (now file)) b × (n ≡ linksBefore (chip (now file)) (512 * b)) × (4 * linksUpTo (chip (now file)) b ≤ length (now part)) ⌝ }
     ensures { λ r. ⌜ (r ≡ linksUpTo (chip (now (file .entry))) b) × (now (part .exit) ≡ placed (now (part .entry)) (4 * n) (linkStretch (chip (now (file .entry))) (512 * b) 512)) ⌝ }
 {
-    let last = link::links_up_to(file, ctrl, b, n);
     let rows = link::rows(file, ctrl, b);
     let mut m = n;
     let mut t: usize = 0;
@@ -100,14 +106,14 @@ pub fn write_into(part: &mut [u8], file: &[u8], ctrl: [[u8; 8]; 64], b: usize, n
 }
 
 // The link writer: writes the links at the start of the part that lies behind the events, where there are n events.
-pub fn write_links(part: &mut [u8], file: &[u8], ctrl: [[u8; 8]; 64], n: usize)
-    requires { ⌜ Ready (now file) (edge ctrl) × (n ≡ newEvents (contents (now file))) × (4 * linksUpTo (chip (now file)) n ≤ length (now part)) ⌝ }
+pub fn write_links(part: &mut [u8], file: &[u8], ctrl: [[u8; 8]; 64], ends: [u8; 64], n: usize)
+    requires { ⌜ Ends (now file) n ends × Ready (now file) (edge ctrl) × (n ≡ newEvents (contents (now file))) × (4 * linksUpTo (chip (now file)) n ≤ length (now part)) ⌝ }
     ensures { λ _. ⌜ now (part .exit) ≡ placed (now (part .entry)) 0 (linkRecords (chip (now (file .entry))) (512 * suc n)) ⌝ }
 {
     let mut m: usize = 0;
     let mut b: usize = 1;
     while b <= n {
-        let z = write_into(part, file, ctrl, b, m);
+        let z = write_into(part, file, ctrl, b, m, ends[b] as usize);
         m = z;
         b += 1;
     }

@@ -17,7 +17,7 @@ then-requires c κs = search needs
 
 returns : tie.Need-returns
 unfolding base
-returns c = 
+returns c =
     let start = c .before .before .before .before in
     c .then .ensures ∙ ap₂ (chain nodes) (start .pre .2) (c .before .optional .ensures ∙ ap₂ optional (c .before .before .events .ensures) (start .pre .1))
 

@@ -26,7 +26,7 @@ or-requires-2 c κs = search needs
 
 returns : tie.Need-returns
 unfolding releaseFence union membersOf
-returns c = 
+returns c =
     let fences = c .before .before .before .before .before .before .pre .1 in
     c .or2 .ensures
     ∙ ap₂ union (c .before .before .or .ensures ∙ ap₂ union (c .before .before .before .before .among .ensures ∙ mode-among _ _ _ _ fences) (c .before .before .before .among2 .ensures ∙ mode-among _ _ _ _ fences)) (c .before .among3 .ensures ∙ mode-among _ _ _ _ fences)

@@ -1,8 +1,10 @@
 -- `written` meets its contract: refused before anything is written, or written part by part. Assumes nothing.
 use mathlib.Core.Path.{ap, _∙_}
 use mathlib.Core.List.{[]}
+use native.Mathlib.Omega.{arith}
 use Rattle.translation.specs.Parts.{placed}
 use Rattle.translation.proofs.CallLaws.{source-of, refused-short, events-room, links-part, all-written}
+use Rattle.translation.proofs.LinkRows.{ends-few}
 use borrow.Author.Needs.{needs}
 use Rattle.translation.proofs.written.Statement.{statement}
 use Rattle.translation.proofs.written.Tie as tie
@@ -13,8 +15,14 @@ ctrl-requires c κs = source-of _ (c .before .before .pre)
 new-events-requires : tie.Need-new-events-requires
 new-events-requires c κs = source-of _ (c .before .before .before .pre)
 
-count-links-requires : tie.Need-count-links-requires
-count-links-requires c κs = (record { source = source-of _ (c .before .before .before .before .pre); grid = c .before .ctrl .ensures }, c .new-events .ensures .0)
+ends-requires : tie.Need-ends-requires
+ends-requires c κs = (record { source = source-of _ (c .before .before .before .before .pre); grid = c .before .ctrl .ensures }, c .new-events .ensures .0)
+
+array-read-m : tie.Need-array-read-m
+array-read-m c = search needs
+
+cast-m : tie.Need-cast-m
+cast-m c = search needs
 
 mul-start : tie.Need-mul-start
 mul-start c = search needs
@@ -23,23 +31,23 @@ add-start : tie.Need-add-start
 add-start c = search needs
 
 mul-length : tie.Need-mul-length
-mul-length c = search needs
+mul-length c = (let few = ends-few _ _ (source-of _ (c .before .before .before .before .before .pre)) _ (c .before .new-events .result) (c .ends .ensures) (omega arith) in omega (arith, few))
 
 add-length : tie.Need-add-length
-add-length c = search needs
+add-length c = (let few = ends-few _ _ (source-of _ (c .before .before .before .before .before .pre)) _ (c .before .new-events .result) (c .ends .ensures) (omega arith) in omega (arith, few, c .before .new-events .ensures .1))
 
 returns : tie.Need-returns
 returns c =
     let counted = c .before in
     let start = counted .before .before .before .before .before in
-    let w = refused-short _ _ _ _ (start .pre) (counted .before .new-events .ensures .0) (counted .count-links .ensures .0) (c .if1 .taken) in
+    let w = refused-short _ _ _ _ (start .pre) (counted .before .new-events .ensures .0) (counted .ends .ensures .upto _ (omega arith)) (c .if1 .taken) in
     (w .answer, w .output)
 
 header-requires : tie.Need-header-requires
 header-requires c κs =
     let counted = c .before in
     let start = counted .before .before .before .before .before in
-    (source-of _ (start .pre), counted .before .new-events .ensures .0, counted .count-links .ensures .0)
+    (source-of _ (start .pre), counted .before .new-events .ensures .0, (counted .ends .ensures .upto _ (omega arith)))
 
 slice-aggregate-put : tie.Need-slice-aggregate-put
 slice-aggregate-put c = search needs
@@ -52,7 +60,8 @@ write-events-requires c κs =
     let enough = c .before .before .before .before .before .before .before in
     let counted = enough .before in
     let start = counted .before .before .before .before .before in (
-      record { source = source-of _ (start .pre); grid = counted .before .before .ctrl .ensures },
+      source-of _ (start .pre),
+      counted .ends .ensures,
       counted .before .new-events .ensures .0,
       events-room _ _ _ _ _ (enough .if1 .left) (c .before .before .before .put .ensures ∙ ap (placed _ 0) (c .before .before .before .before .before .before .header .ensures)),
     )
@@ -73,9 +82,10 @@ write-links-requires c κs =
     let enough = made .before in
     let counted = enough .before in
     let start = counted .before .before .before .before .before in (
+      counted .ends .ensures,
       record { source = source-of _ (start .pre); grid = counted .before .before .ctrl .ensures },
       counted .before .new-events .ensures .0,
-      links-part _ _ _ _ [] _ _ (start .pre) (counted .before .new-events .ensures .0) (counted .count-links .ensures .0) (enough .if1 .left)
+      links-part _ _ _ _ [] _ _ (start .pre) (counted .before .new-events .ensures .0) (counted .ends .ensures .upto _ (omega arith)) (enough .if1 .left)
           (put .put .ensures ∙ ap (placed _ 0) (made .header .ensures)) (c .before .before .before .write-events .ensures),
     )
 
@@ -90,7 +100,7 @@ returns-2 c =
     let enough = made .before in
     let counted = enough .before in
     let start = counted .before .before .before .before .before in
-    let w = all-written _ _ _ _ _ _ _ (start .pre) (counted .before .new-events .ensures .0) (counted .count-links .ensures .0) (enough .if1 .left)
+    let w = all-written _ _ _ _ _ _ _ (start .pre) (counted .before .new-events .ensures .0) (counted .ends .ensures .upto _ (omega arith)) (enough .if1 .left)
     (put .put .ensures ∙ ap (placed _ 0) (made .header .ensures)) (events .write-events .ensures) (c .before .before .write-links .ensures) in
     (w .answer, w .output)
 
@@ -100,7 +110,9 @@ written-spec =
     (tie.spec
     ctrl-requires
     new-events-requires
-    count-links-requires
+    ends-requires
+    array-read-m
+    cast-m
     mul-start
     add-start
     mul-length

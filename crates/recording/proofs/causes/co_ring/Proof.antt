@@ -26,7 +26,7 @@ first-requires c κs = search needs
 
 returns : tie.Need-returns
 unfolding coRing
-returns c = 
+returns c =
     ap (λ (x : ℕ). ltb x 64) (c .first .ensures ∙ ap (least 64) (c .before .diagonal .ensures ∙ ap diagonal (c .before .before .coherence .ensures))) ∙ some-least _
 
 pub co-ring-spec : {M : Type 1} → statement M

@@ -28,7 +28,7 @@ or-requires c κs = search needs
 
 returns : tie.Need-returns
 unfolding membersOf
-returns c = 
+returns c =
     let sets = c .before .before .before .before .before in
     let pre = sets .before .before .before .pre in
     co-is _ _ _ _ _ _ _ _ _ _ (sets .before .members .ensures) (sets .members2 .ensures) (c .before .before .before .before .and .ensures)

@@ -14,7 +14,7 @@ returns : tie.Need-returns
 returns c = sources-none _ _ (sym (c .before .is-recorded .ensures) ∙ not-true _ (c .if1 .taken))
 
 by-type-requires : tie.Need-by-type-requires
-by-type-requires c κs = 
+by-type-requires c κs =
     let pre = c .before .before .before .pre in
     let first = recorded-bounds _ _ (sym (c .before .is-recorded .ensures) ∙ not-false _ (c .if1 .left)) in
     (pre .sized, first .0, first .1, pre .chains _ (first .0) (first .1))

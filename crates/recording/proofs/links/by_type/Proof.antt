@@ -39,7 +39,7 @@ start-requires : tie.Need-start-requires Inv-loop μ-loop
 start-requires c κs = omega (arith, c .before .before .before .pre .0 .long)
 
 loop-holds : tie.Need-loop-holds Inv-loop μ-loop
-loop-holds c = 
+loop-holds c =
     let start = c .before .before .before .before in (
       start .pre .0,
       start .pre .1,
@@ -49,12 +49,12 @@ loop-holds c =
     )
 
 returns : tie.Need-returns Inv-loop μ-loop
-returns c = 
+returns c =
     let inv = c .before .before .loop .inv in
     sorted-done _ _ _ _ _ (inv .1) (inv .2) (inv .4) (ap (follow _ _ _) (c .if1 .taken) ∙ follow-end _ _ _)
 
 link-byte-requires : tie.Need-link-byte-requires Inv-loop μ-loop
-link-byte-requires c κs = 
+link-byte-requires c κs =
     let at-loop = c .before .before in
     let inv = at-loop .loop .inv in
     let one = sorted-head _ _ _ (at-loop .loop .n - 1) _ _ (omega arith) (c .if1 .left) (inv .4) in
@@ -115,7 +115,7 @@ loop-again c =
     ]
 
 returns-2 : tie.Need-returns-2 Inv-loop μ-loop
-returns-2 c = 
+returns-2 c =
     let inv = c .before .loop .inv in
     sorted-done _ _ _ _ _ (inv .1) (inv .2) (inv .4) (follow-none _ _ _ _ (c .loop-test .left))
 

@@ -68,7 +68,7 @@ loop2-less c = search needs
 
 loop2-again : tie.Need-loop2-again Inv-loop2 μ-loop2 Inv-loop μ-loop
 unfolding edge
-loop2-again c = 
+loop2-again c =
     let turn = c .before .before .before .before in
     let inv = turn .before .loop2 .inv in
     (search needs, rows-set _ _ _ _ _ (inv .1) (turn .loop2-test .taken) (c .or .ensures ∙ ap (union _) (c .before .given .ensures) ∙ through-row _ _ _ _ _ _ (inv .1 .rest _ (omega arith)) (inv .3) (c .before .before .has .ensures)), inv .2, inv .3)
@@ -81,7 +81,7 @@ loop-less c = search needs
 
 loop-again : tie.Need-loop-again Inv-loop2 μ-loop2 Inv-loop μ-loop
 unfolding edge
-loop-again c = 
+loop-again c =
     let turn = c .before .before .before in
     let inv = turn .before .loop .inv in
     elim (c .if1 .came) [

@@ -43,7 +43,7 @@ loop-less c = search needs
 
 loop-again : tie.Need-loop-again Inv-loop μ-loop
 unfolding diagonal edge
-loop-again c = 
+loop-again c =
     let turn = c .before .before .before in
     let inv = turn .before .loop .inv in
     let test = c .before .has .ensures in
@@ -54,7 +54,7 @@ loop-again c =
 
 returns : tie.Need-returns Inv-loop μ-loop
 unfolding diagonal empty
-returns c = 
+returns c =
     let inv = c .before .loop .inv in
     upto-done _ 64 _ _ (c .loop-test .left) (inv .1) (λ m h. ap (λ (s : Set). s m) (edge-out _ (inv .2) m h))
 

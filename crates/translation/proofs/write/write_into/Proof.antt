@@ -14,14 +14,11 @@ Inv-loop part₀ file b n last rows m₀ t₀ part m t = (t ≤ 8) × IntoWritte
 abbrev μ-loop : tie.MeasureT-loop
 μ-loop part₀ file b n last rows m₀ t₀ part m t = 8 - t
 
-links-up-to-requires : tie.Need-links-up-to-requires Inv-loop μ-loop
-links-up-to-requires c κs = search needs
-
 rows-requires : tie.Need-rows-requires Inv-loop μ-loop
-rows-requires c κs = (c .before .before .before .pre .0, c .before .before .before .pre .1)
+rows-requires c κs = (c .before .before .pre .1, c .before .before .pre .2)
 
 loop-holds : tie.Need-loop-holds Inv-loop μ-loop
-loop-holds c = (let pre = c .before .before .before .before .pre in (search needs, into-none _ _ _ _ _ (pre .0 .source) (pre .2) (pre .3) (c .before .links-up-to .ensures .0), c .rows .ensures))
+loop-holds c = (let pre = c .before .before .before .pre in (search needs, into-none _ _ _ _ _ (pre .1 .source) (pre .3) (pre .4) (pre .0), c .rows .ensures))
 
 mul-write-row : tie.Need-mul-write-row Inv-loop μ-loop
 mul-write-row c = search needs
@@ -57,7 +54,6 @@ write-into-spec =
     (tie.spec
     Inv-loop
     μ-loop
-    links-up-to-requires
     rows-requires
     loop-holds
     mul-write-row
