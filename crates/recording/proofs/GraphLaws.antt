@@ -13,6 +13,7 @@ use lib.ListN.{length, getD, set, replicate, length-set}
 use lib.Seq.{getD-set-same, getD-set-other}
 use Rattle.relation.specs.Rel.{least, Next, Set, Rel, empty, none, single, union, intersection, product, inverse, either, both, some, below, plus, nodes}
 use Rattle.relation.specs.Bits.{bit, edge}
+use Rattle.relation.proofs.GridLaws.{Rows, rows-skip}
 use Rattle.relation.proofs.Meaning.{Mem, and-left, and-right, and-both, or-either, or-left, or-right, some-sound, some-complete, mem-below, below-mem}
 use Rattle.relation.proofs.SetLaws.{and-false, Least, least-is, upto, upto-none, upto-with, upto-keep, upto-skip, upto-done}
 use Rattle.models.specs.Recording.{Recording, event, ofClass, ofMode, flagged, access, sameLocation, coStep}
@@ -21,7 +22,7 @@ use Rattle.recording.specs.Layout.{events, locations, eventByte, Sized}
 use Rattle.recording.specs.Chains.{each, nextEvent}
 use Rattle.recording.specs.Decode.{isRecorded, isInitial, decode, recordOr, fieldOr}
 use Rattle.recording.specs.Causes.{legal, eventLegal, readLegal, writeLegal}
-use Rattle.recording.specs.Sets.{accessAt, membersOf, AccessRows, SourcesInto, LinkRows}
+use Rattle.recording.specs.Sets.{accessAt, membersOf, Following, AccessRows, SourcesInto, LinkRows}
 use Rattle.recording.specs.declared.Members.{Members}
 use Rattle.recording.specs.declared.Members.the-variants.{Recorded, Initial, Class, Mode, Flagged}
 use Rattle.recording.proofs.FieldLaws.{recorded-bounds, event-small, location-initial}
@@ -77,8 +78,13 @@ unfolding isInitial
 gap-initial f e g =
     refuted (leb 56 e && ltb e (56 + locations f)) (λ p. let w = leb-true 56 e (and-left (leb 56 e) (ltb e (56 + locations f)) p) in omega arith)
 
-pub members-gap : (f : List ℕ) (s : Members) (e : ℕ) → events f < e → e < 56 → membersOf f s e ≡ false
+members-gap : (f : List ℕ) (s : Members) (e : ℕ) → events f < e → e < 56 → membersOf f s e ≡ false
 members-gap f s e h g = members-none f e (gap-recorded f e h) (gap-initial f e g) s
+
+pub members-on : (f : List ℕ) (s : Members) (n e r : ℕ) (t : Set) → n ≡ events f → t ≡ upto (e + 1) (membersOf f s) → Following n e r → t ≡ upto r (membersOf f s)
+members-on f s n e r t p w next =
+    upto-skip (e + 1) r (membersOf f s) t (omega (arith, next .above)) w
+    (λ j a b. let g = next .gap j (omega arith) b in members-gap f s j (omega (arith, g .0, p)) (g .1))
 
 -- The members of a row that are in s, member by member: those below e are found, where e is a member or 64.
 pub record Found (row s t : Set) (e : ℕ) : Type 0 where
@@ -249,8 +255,14 @@ no-access : (f : List ℕ) (e : ℕ) → access (decode f) e ≡ false → none 
 unfolding sameLocation none empty
 no-access f e p = fun-ext (λ b. sym (rw p))
 
-pub location-gap : (f : List ℕ) (e : ℕ) → events f < e → e < 56 → none e ≡ sameLocation (decode f) e
+location-gap : (f : List ℕ) (e : ℕ) → events f < e → e < 56 → none e ≡ sameLocation (decode f) e
 location-gap f e h g = no-access f e (access-none f e (gap-recorded f e h) (gap-initial f e g))
+
+pub location-on : (f : List ℕ) (n e r : ℕ) (h : List (List ℕ)) → n ≡ events f → Rows (sameLocation (decode f)) none h (e + 1) → Following n e r
+    → Rows (sameLocation (decode f)) none h r
+location-on f n e r h p w next =
+    rows-skip (sameLocation (decode f)) none h (e + 1) r w (omega (arith, next .above))
+    (λ m a b. let g = next .gap m (omega arith) b in location-gap f m (omega (arith, g .0, p)) (g .1))
 
 pub location-out : (f : List ℕ) → Sized f → (e : ℕ) → 64 ≤ e → sameLocation (decode f) e ≡ empty
 unfolding none
@@ -287,8 +299,13 @@ module _ (f : List ℕ) (e : ℕ) (h : List (List ℕ)) (w : Locating f e h) (l 
   pub locating-keep : 8 ≤ l → Locating f (e + 1) h
   locating-keep k = record { long = w .long; row = λ m g. upto-keep e (accessAt f m) _ (w .row m g) (at m g ∙ ne-eqb l m (λ q. omega arith)) }
 
-pub locating-gap : (f : List ℕ) (e : ℕ) (h : List (List ℕ)) → Locating f e h → events f < e → e ≤ 56 → Locating f 56 h
-locating-gap f e h w k g = record { long = w .long; row = λ l i. upto-skip e 56 (accessAt f l) _ g (w .row l i) (λ j a b. access-gap f l j (omega arith) b) }
+pub locating-on : (f : List ℕ) (n e r : ℕ) (h : List (List ℕ)) → n ≡ events f → Locating f (e + 1) h → Following n e r → Locating f r h
+locating-on f n e r h p w next =
+    record {
+      long = w .long;
+      row = λ l i. upto-skip (e + 1) r (accessAt f l) _ (omega (arith, next .above)) (w .row l i)
+          (λ j a b. let g = next .gap j (omega arith) b in access-gap f l j (omega (arith, g .0, p)) (g .1));
+    }
 
 pub locating-all : (f : List ℕ) → Sized f → (e : ℕ) (h : List (List ℕ)) → 64 ≤ e → Locating f e h → AccessRows f h
 locating-all f s e h k w = record { long = w .long; row = λ l i. upto-done e 64 (accessAt f l) _ k (w .row l i) (access-out f s l) }

@@ -23,6 +23,12 @@ membersOf f (Class k) = ofClass (decode f) k
 membersOf f (Mode k m) = ofMode (decode f) k m
 membersOf f (Flagged k) = flagged (decode f) k
 
+-- r comes after e, and between them stands no number of an event, where there are n records.
+pub record Following (n e r : ℕ) : Type 0 where
+  pub above : e < r
+  pub high : r ≤ 64
+  pub gap : (m : ℕ) → e < m → m < r → (n < m) × (m < 56)
+
 -- The rows hold the reads and writes of each location.
 pub record AccessRows (f : List ℕ) (rows : List (List ℕ)) : Type 0 where
   pub long : length rows ≡ 8

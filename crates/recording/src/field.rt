@@ -5,6 +5,7 @@ ghost use mathlib.Core.Path.{_≡_};
 ghost use Prim.Native.Nat.{_≤_, _<_};
 ghost use Rattle.models.specs.Recording.{event, ofClass, ofMode, flagged, access};
 ghost use Rattle.recording.specs.Layout.{byte, events, locations, links, eventByte, linkByte, Sized};
+ghost use Rattle.recording.specs.Sets.{Following};
 ghost use Rattle.recording.specs.Decode.{isRecorded, isInitial, fieldOr, decode};
 
 // The number of event records.
@@ -29,6 +30,17 @@ pub fn locations(file: &[u8]) -> usize
     ensures { λ r. ⌜ (r ≡ locations (now (file .entry))) × (r ≤ 8) ⌝ }
 {
     file[2] as usize
+}
+
+// The next number after e that an event may have: behind the n records come the initial writes.
+pub fn following(n: usize, e: usize) -> usize
+    requires { ⌜ (n ≤ 48) × (e < 64) ⌝ }
+    ensures { λ r. ⌜ Following n e r ⌝ }
+{
+    if e == n {
+        return 56;
+    }
+    e + 1
 }
 
 // Byte k of event record i.
@@ -80,6 +92,7 @@ pub fn field(file: &[u8], e: usize, k: usize, given: usize) -> usize
     0
 }
 
+// The class of e: 1 read, 2 write, 3 fence.
 pub fn class_of(file: &[u8], e: usize) -> usize
     requires { ⌜ Sized (now file) ⌝ }
     ensures { λ r. ⌜ (r ≡ decode (now (file .entry)) .class e) × (r < 256) ⌝ }
@@ -87,6 +100,7 @@ pub fn class_of(file: &[u8], e: usize) -> usize
     field(file, e, 1, 2)
 }
 
+// The mode of e.
 pub fn mode_of(file: &[u8], e: usize) -> usize
     requires { ⌜ Sized (now file) ⌝ }
     ensures { λ r. ⌜ (r ≡ decode (now (file .entry)) .mode e) × (r < 256) ⌝ }
@@ -94,6 +108,7 @@ pub fn mode_of(file: &[u8], e: usize) -> usize
     field(file, e, 2, 0)
 }
 
+// The flag of e.
 pub fn flag_of(file: &[u8], e: usize) -> usize
     requires { ⌜ Sized (now file) ⌝ }
     ensures { λ r. ⌜ (r ≡ decode (now (file .entry)) .flag e) × (r < 256) ⌝ }
@@ -101,6 +116,7 @@ pub fn flag_of(file: &[u8], e: usize) -> usize
     field(file, e, 3, 0)
 }
 
+// The location of e.
 pub fn location_of(file: &[u8], e: usize) -> usize
     requires { ⌜ Sized (now file) ⌝ }
     ensures { λ r. ⌜ r ≡ decode (now (file .entry)) .location e ⌝ }
@@ -112,6 +128,7 @@ pub fn location_of(file: &[u8], e: usize) -> usize
     }
 }
 
+// The value of e, 16 bits, low byte first.
 pub fn value_of(file: &[u8], e: usize) -> usize
     requires { ⌜ Sized (now file) ⌝ }
     ensures { λ r. ⌜ r ≡ decode (now (file .entry)) .value e ⌝ }
@@ -119,6 +136,7 @@ pub fn value_of(file: &[u8], e: usize) -> usize
     field(file, e, 5, 0) + 256 * field(file, e, 6, 0)
 }
 
+// Whether e is an initial write or has a record.
 pub fn is_event(file: &[u8], e: usize) -> bool
     requires { ⌜ Sized (now file) ⌝ }
     ensures { λ r. ⌜ r ≡ event (decode (now (file .entry))) e ⌝ }

@@ -47,11 +47,7 @@ pub fn members(file: &[u8], s: Members) -> [u8; 8]
             let z = row::with(r, e);
             r = z;
         }
-        // No event is numbered between the records and the initial writes.
-        if e == n {
-            e = 55;
-        }
-        e += 1;
+        e = field::following(n, e);
     }
     r
 }
@@ -214,10 +210,7 @@ pub fn by_location(file: &[u8]) -> [[u8; 8]; 8]
             let x = h[l];
             h[l] = row::with(x, e);
         }
-        if e == n {
-            e = 55;
-        }
-        e += 1;
+        e = field::following(n, e);
     }
     h
 }
@@ -236,10 +229,7 @@ pub fn same_location(file: &[u8]) -> [[u8; 8]; 64]
         if l < 8 {
             h[e] = rows[l];
         }
-        if e == n {
-            e = 55;
-        }
-        e += 1;
+        e = field::following(n, e);
     }
     h
 }

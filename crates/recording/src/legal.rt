@@ -15,24 +15,28 @@ ghost use Rattle.recording.specs.Chains.{each};
 ghost use Rattle.recording.specs.Decode.{decode};
 ghost use Rattle.recording.specs.Causes.{readLegal, writeLegal, fenceMode, fenceLegal, legal, eventLegal, sameLocations, rfLegal, coLegal, rmwLegal, fromRead, dataLegal, addrLegal, casdepLegal, linkLegal, linkSound};
 
+// Whether the kind is that of source recordings.
 pub fn is_source(kind: usize) -> bool
     ensures { λ r. ⌜ r ≡ isSource kind ⌝ }
 {
     kind == 1
 }
 
+// A read: mode 0 or 1, flag 0 or 1.
 pub fn read_legal(mode: usize, flag: usize) -> bool
     ensures { λ r. ⌜ r ≡ readLegal mode flag ⌝ }
 {
     mode <= 1 && flag <= 1
 }
 
+// A write has mode 0 or 2.
 pub fn write_mode(mode: usize) -> bool
     ensures { λ r. ⌜ r ≡ eqb mode 0 || eqb mode 2 ⌝ }
 {
     mode == 0 || mode == 2
 }
 
+// A write has flag 0, or 1 (strong) in a source recording.
 pub fn write_flag(kind: usize, flag: usize) -> bool
     ensures { λ r. ⌜ r ≡ eqb flag 0 || (eqb flag 1 && isSource kind) ⌝ }
 {
@@ -42,18 +46,21 @@ pub fn write_flag(kind: usize, flag: usize) -> bool
     flag == 1 && is_source(kind)
 }
 
+// A write: its mode and its flag.
 pub fn write_legal(kind: usize, mode: usize, flag: usize) -> bool
     ensures { λ r. ⌜ r ≡ writeLegal kind mode flag ⌝ }
 {
     write_mode(mode) && write_flag(kind, flag)
 }
 
+// Whether x is from low to high.
 pub fn between(low: usize, x: usize, high: usize) -> bool
     ensures { λ r. ⌜ r ≡ leb low x && leb x high ⌝ }
 {
     low <= x && x <= high
 }
 
+// A fence has mode 1 to 4 in a source recording, 5 or 6 in a chip recording.
 pub fn fence_mode(kind: usize, mode: usize) -> bool
     ensures { λ r. ⌜ r ≡ fenceMode kind mode ⌝ }
 {
@@ -63,12 +70,14 @@ pub fn fence_mode(kind: usize, mode: usize) -> bool
     between(5, mode, 6)
 }
 
+// A fence: its mode, and flag 0.
 pub fn fence_legal(kind: usize, mode: usize, flag: usize) -> bool
     ensures { λ r. ⌜ r ≡ fenceLegal kind mode flag ⌝ }
 {
     fence_mode(kind, mode) && flag == 0
 }
 
+// A fence's location and value.
 pub fn both_zero(location: usize, value: usize) -> bool
     ensures { λ r. ⌜ r ≡ eqb location 0 && eqb value 0 ⌝ }
 {
@@ -99,6 +108,7 @@ pub fn legal(
     false
 }
 
+// Whether the record of e is as the table says.
 pub fn event_legal(file: &[u8], e: usize) -> bool
     requires { ⌜ Sized (now file) ⌝ }
     ensures { λ r. ⌜ r ≡ eventLegal (now (file .entry)) e ⌝ }
@@ -143,6 +153,7 @@ pub fn classes(file: &[u8], a: usize, j: usize, b: usize, k: usize) -> bool
     field::of_class(file, a, j) && field::of_class(file, b, k)
 }
 
+// Whether a and b have the same location.
 pub fn same_location(file: &[u8], a: usize, b: usize) -> bool
     requires { ⌜ Sized (now file) ⌝ }
     ensures { λ r. ⌜ r ≡ sameLocations (decode (now (file .entry))) a b ⌝ }
@@ -150,6 +161,7 @@ pub fn same_location(file: &[u8], a: usize, b: usize) -> bool
     field::location_of(file, a) == field::location_of(file, b)
 }
 
+// Whether a and b have the same location and value.
 pub fn same_value(file: &[u8], a: usize, b: usize) -> bool
     requires { ⌜ Sized (now file) ⌝ }
     ensures { λ r. ⌜ r ≡ sameLocations (decode (now (file .entry))) a b && eqb (decode (now (file .entry)) .value a) (decode (now (file .entry)) .value b) ⌝ }
@@ -195,6 +207,7 @@ pub fn is_next(file: &[u8], a: usize, b: usize) -> bool
     field::is_recorded(file, b) && field::event_byte(file, a, 0) == b
 }
 
+// Whether b directly follows a in its thread and has the same location.
 pub fn next_same(file: &[u8], a: usize, b: usize) -> bool
     requires { ⌜ Sized (now file) ⌝ }
     ensures { λ r. ⌜ r ≡ decode (now (file .entry)) .next a b && sameLocations (decode (now (file .entry))) a b ⌝ }
@@ -202,6 +215,7 @@ pub fn next_same(file: &[u8], a: usize, b: usize) -> bool
     is_next(file, a, b) && same_location(file, a, b)
 }
 
+// Whether a is an exclusive read and b a write.
 pub fn exclusive_to_write(file: &[u8], a: usize, b: usize) -> bool
     requires { ⌜ Sized (now file) ⌝ }
     ensures { λ r. ⌜ r ≡ flagged (decode (now (file .entry))) 1 a && ofClass (decode (now (file .entry))) 2 b ⌝ }
@@ -241,6 +255,7 @@ pub fn addr_legal(file: &[u8], po: [[u8; 8]; 64], a: usize, b: usize) -> bool
     from_read(file, po, a, b) && field::is_access(file, b)
 }
 
+// Whether b is an exclusive read of a source recording.
 pub fn source_exclusive(file: &[u8], b: usize) -> bool
     requires { ⌜ Sized (now file) ⌝ }
     ensures { λ r. ⌜ r ≡ isSource (kind (now (file .entry))) && flagged (decode (now (file .entry))) 1 b ⌝ }

@@ -9,3 +9,4 @@ pub mod RingLaws
 pub mod OrderLaws
 pub mod RingMeaning
 pub mod WordLaws
+pub mod Counting

@@ -20,7 +20,7 @@ use Rattle.translation.specs.Parts.{Source}
 use Rattle.recording.proofs.Truth.{is-true, holds}
 use Rattle.recording.proofs.Accepted.{links-sound}
 use Rattle.recording.proofs.ChainFacts.{among-here, among-there, fresh-within, follow-positive, met-at, one-chain}
-use Rattle.translation.proofs.Counting.{count-inject, count-double}
+use Rattle.relation.proofs.Counting.{count-inject, count-double}
 use Rattle.translation.proofs.TranslateLaws.{Flagged, flagged-is, Linked, stays, exclusively, casdep, new-is}
 use Rattle.translation.proofs.EncodedLinks.{LinksFit}
 use Rattle.translation.proofs.SourceFacts.{accepted-source, limits, loads, says, link-source, link-target, flagged-decoded}

@@ -13,7 +13,7 @@ use Rattle.recording.specs.Layout.{kind, events, locations, links, linkStart, f
 use Rattle.recording.specs.Chains.{head, startOf}
 use Rattle.translation.specs.Contents.{Contents}
 use Rattle.translation.specs.Encode.{isLink, linksBefore, linksUpTo, header, eventRecord, linkRecord, eventRecords, linkRecords, encode}
-use Rattle.translation.proofs.Counting.{count-yes}
+use Rattle.relation.proofs.Counting.{count-yes}
 use Rattle.translation.proofs.RecordLaws.{records-length, records-at}
 
 -- e events are numbered from 1 to e.

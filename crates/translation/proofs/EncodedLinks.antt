@@ -18,7 +18,7 @@ use Rattle.recording.specs.Decode.{isRecorded, decode}
 use Rattle.recording.proofs.FieldLaws.{recorded-bounds, recorded-is}
 use Rattle.translation.specs.Contents.{Contents}
 use Rattle.translation.specs.Encode.{chained, isLink, linksBefore, linksUpTo, eventRecord, linkRecord, encode}
-use Rattle.translation.proofs.Counting.{select, count-mono, count-lt, count-none}
+use Rattle.relation.proofs.Counting.{select, count-mono, count-lt, count-none}
 use Rattle.translation.proofs.EncodeLaws.{encode-events, encode-links, encode-event, encode-link}
 use Rattle.translation.proofs.Runs.{run, run-append, run-some, run-member, run-once, follow-run}
 

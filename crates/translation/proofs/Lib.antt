@@ -1,5 +1,4 @@
 -- Laws that the proofs of `translation` share, and its theorems.
-pub mod Counting
 pub mod RecordLaws
 pub mod EncodeLaws
 pub mod Runs

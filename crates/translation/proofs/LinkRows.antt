@@ -28,7 +28,7 @@ use Rattle.translation.specs.Translate.{flagged, exclusive, newEvents, a
 use Rattle.translation.specs.Encode.{isLink, linksBefore, linksUpTo}
 use Rattle.translation.specs.Answer.{chip}
 use Rattle.translation.specs.Parts.{Source, NewEvent, RowsInto, Ends, targets, ctrlInto}
-use Rattle.translation.proofs.Counting.{count-add, count-same, count-mono}
+use Rattle.relation.proofs.Counting.{count-add, count-same, count-mono}
 use Rattle.translation.proofs.TranslateLaws as law
 use Rattle.translation.proofs.TranslateLaws.{flagged-is}
 use Rattle.translation.proofs.EncodedLinks.{link-number, none-into-zero}

@@ -11,7 +11,7 @@ use lib.ListN.{length, getD, length-append, List·getD-append}
 use lib.Seq.{getD-append-add}
 use Rattle.relation.specs.Rel.{Set, count}
 use Rattle.translation.specs.Encode.{records}
-use Rattle.translation.proofs.Counting.{count-cases, count-lt}
+use Rattle.relation.proofs.Counting.{count-cases, count-lt}
 
 module _ (record-of : ℕ → List ℕ) (s : Set) where
   pub records-yes : (n : ℕ) → s n ≡ true → records record-of s (suc n) ≡ records record-of s n ++ record-of n

@@ -11,7 +11,7 @@ use Rattle.relation.proofs.Meaning.{and-left, and-right, and-both, or-either, o
 use Rattle.relation.proofs.SetLaws.{least-at, and-false}
 use Rattle.translation.specs.Contents.{Contents}
 use Rattle.translation.specs.Translate.{flagged, exclusive, strong, inserted, newEvents, fenced, after, follows, keptOr, newMode, newFlag, controlled, fromExclusive, fromCasdep, newLink}
-use Rattle.translation.proofs.Counting.{count-lt, count-injective, select}
+use Rattle.relation.proofs.Counting.{count-lt, count-injective, select}
 use Rattle.translation.proofs.Woven.{Weaves}
 
 module _ (s : Contents) where

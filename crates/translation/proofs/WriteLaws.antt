@@ -18,7 +18,7 @@ use Rattle.translation.specs.Translate.{newEvents, after, keptOr, newMod
 use Rattle.translation.specs.Encode.{chained, records, isLink, linksBefore, linksUpTo, header, eventRecord, linkRecord, eventRecords, linkRecords}
 use Rattle.translation.specs.Answer.{chip}
 use Rattle.translation.specs.Parts.{Source, NewEvent, Ready, placed, rowRecord, linkStretch}
-use Rattle.translation.proofs.Counting.{count-le, count-mono, count-yes, count-no, count-lt, count-add, count-same}
+use Rattle.relation.proofs.Counting.{count-le, count-mono, count-yes, count-no, count-lt, count-add, count-same}
 use Rattle.translation.proofs.RecordLaws.{records-yes, records-no, records-length, records-add, records-same}
 use Rattle.translation.proofs.EncodeLaws.{link-size, events-length, links-length}
 use Rattle.translation.proofs.EncodedLinks.{digits, link-number}

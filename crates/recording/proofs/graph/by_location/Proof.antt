@@ -4,7 +4,7 @@ use mathlib.Core.Logic.{inl, inr}
 use Prim.Native.Nat.{ℕ, _+_, _-_, _≤_}
 use native.Mathlib.Omega.{arith}
 use Rattle.recording.specs.Layout.{Sized, events}
-use Rattle.recording.proofs.GraphLaws.{Locating, locating-none, locating-with, locating-keep, locating-gap, locating-all}
+use Rattle.recording.proofs.GraphLaws.{Locating, locating-none, locating-with, locating-keep, locating-on, locating-all}
 use borrow.Author.Needs.{needs}
 use Rattle.recording.proofs.graph.by_location.Statement.{statement}
 use Rattle.recording.proofs.graph.by_location.Tie as tie
@@ -39,27 +39,24 @@ mul-h c = search needs
 array-set-from-h : tie.Need-array-set-from-h Inv-loop μ-loop
 array-set-from-h c = search needs
 
-add-e : tie.Need-add-e Inv-loop μ-loop
-add-e c = elim (c .before .if2 .came) [ inl w ↦ rw (w .1) (search needs) | inr w ↦ rw (w .1) (search needs) ]
+following-requires : tie.Need-following-requires Inv-loop μ-loop
+following-requires c κs = (let turn = c .before .before in let inv = turn .before .loop .inv in (omega (arith, inv .1 .most-events, inv .2), turn .loop-test .taken))
 
 loop-less : tie.Need-loop-less Inv-loop μ-loop
-loop-less c = (let inv = c .before .before .before .before .before .loop .inv in elim (c .before .if2 .came) [ inl w ↦ rw (w .1) (omega (arith, inv .1 .most-events, inv .2, w .0 .taken)) | inr w ↦ rw (w .1) (omega (arith, c .before .before .before .before .loop-test .taken)) ])
+loop-less c = omega (arith, c .following .ensures .above, c .before .before .before .loop-test .taken)
 
 loop-again : tie.Need-loop-again Inv-loop μ-loop
 loop-again c =
-    let turn = c .before .before .before .before in
+    let turn = c .before .before .before in
     let inv = turn .before .loop .inv in
-    let at = c .before .before .before .place-of .ensures in
-    let file = c .before .before .before .before .before .before .before .before .args .file .now in
-    let grown : Locating file (turn .before .loop .e + 1) (c .before .before .if1 .h)
-    = elim (c .before .before .if1 .came) [
+    let at = c .before .before .place-of .ensures in
+    let file = c .before .before .before .before .before .before .before .args .file .now in
+    let grown : Locating file (turn .before .loop .e + 1) (c .before .if1 .h)
+    = elim (c .before .if1 .came) [
       | inl w ↦ rw (w .3) (locating-with _ _ _ (inv .3) _ at _ (w .0 .taken) (w .2 .ensures))
       | inr w ↦ rw (w .1) (locating-keep _ _ _ (inv .3) _ at (w .0 .left))
     ] in
-    elim (c .before .if2 .came) [
-      | inl w ↦ rw (w .1) (search needs, inv .1, inv .2, locating-gap _ _ _ grown (omega (arith, inv .2, w .0 .taken)) (omega (arith, inv .1 .most-events, inv .2, w .0 .taken)))
-      | inr w ↦ rw (w .1) (search needs, inv .1, inv .2, grown)
-    ]
+    (c .following .ensures .high, inv .1, inv .2, locating-on _ _ _ _ _ (inv .2) grown (c .following .ensures))
 
 returns : tie.Need-returns Inv-loop μ-loop
 returns c = (let inv = c .before .loop .inv in locating-all _ (inv .1) _ _ (c .loop-test .left) (inv .3))
@@ -78,7 +75,7 @@ by-location-spec =
     with-requires
     mul-h
     array-set-from-h
-    add-e
+    following-requires
     loop-less
     loop-again
     returns)

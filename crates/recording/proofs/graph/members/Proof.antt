@@ -4,10 +4,10 @@ use mathlib.Core.Logic.{inl, inr}
 use Prim.Native.Nat.{ℕ, _+_, _-_, _≤_}
 use native.Mathlib.Omega.{arith}
 use Rattle.relation.specs.Bits.{bit}
-use Rattle.relation.proofs.SetLaws.{upto, upto-none, upto-with, upto-keep, upto-skip, upto-done}
+use Rattle.relation.proofs.SetLaws.{upto, upto-none, upto-with, upto-keep, upto-done}
 use Rattle.recording.specs.Layout.{Sized, events}
 use Rattle.recording.specs.Sets.{membersOf}
-use Rattle.recording.proofs.GraphLaws.{members-out, members-gap}
+use Rattle.recording.proofs.GraphLaws.{members-out, members-on}
 use borrow.Author.Needs.{needs}
 use Rattle.recording.proofs.graph.members.Statement.{statement}
 use Rattle.recording.proofs.graph.members.Tie as tie
@@ -33,27 +33,24 @@ is-member-requires c κs = c .before .loop .inv .1
 with-requires : tie.Need-with-requires Inv-loop μ-loop
 with-requires c κs = search needs
 
-add-e : tie.Need-add-e Inv-loop μ-loop
-add-e c = elim (c .before .if2 .came) [ inl w ↦ rw (w .1) (search needs) | inr w ↦ rw (w .1) (search needs) ]
+following-requires : tie.Need-following-requires Inv-loop μ-loop
+following-requires c κs = (let turn = c .before .before in let inv = turn .before .loop .inv in (omega (arith, inv .1 .most-events, inv .2), turn .loop-test .taken))
 
 loop-less : tie.Need-loop-less Inv-loop μ-loop
-loop-less c = (let inv = c .before .before .before .before .before .loop .inv in elim (c .before .if2 .came) [ inl w ↦ rw (w .1) (omega (arith, inv .1 .most-events, inv .2, w .0 .taken)) | inr w ↦ rw (w .1) (omega (arith, c .before .before .before .before .loop-test .taken)) ])
+loop-less c = omega (arith, c .following .ensures .above, c .before .before .before .loop-test .taken)
 
 loop-again : tie.Need-loop-again Inv-loop μ-loop
 loop-again c =
-    let turn = c .before .before .before .before in
+    let turn = c .before .before .before in
     let inv = turn .before .loop .inv in
-    let args = c .before .before .before .before .before .before .before .before .before .args in
-    let test = c .before .before .before .is-member .ensures in
-    let grown : bit (c .before .before .if1 .r) ≡ upto (turn .before .loop .e + 1) (membersOf (args .file .now) (args .s))
-    = elim (c .before .before .if1 .came) [
+    let args = c .before .before .before .before .before .before .before .before .args in
+    let test = c .before .before .is-member .ensures in
+    let grown : bit (c .before .if1 .r) ≡ upto (turn .before .loop .e + 1) (membersOf (args .file .now) (args .s))
+    = elim (c .before .if1 .came) [
       | inl w ↦ rw (w .2) (w .1 .ensures ∙ upto-with _ _ _ (inv .3) (sym test ∙ w .0 .taken))
       | inr w ↦ rw (w .1) (upto-keep _ _ _ (inv .3) (sym test ∙ w .0 .left))
     ] in
-    elim (c .before .if2 .came) [
-      | inl w ↦ rw (w .1) (search needs, inv .1, inv .2, upto-skip _ 56 _ _ (omega (arith, inv .1 .most-events, inv .2, w .0 .taken)) grown (λ j a b. members-gap _ _ j (omega (arith, inv .2, w .0 .taken)) b))
-      | inr w ↦ rw (w .1) (search needs, inv .1, inv .2, grown)
-    ]
+    (c .following .ensures .high, inv .1, inv .2, members-on _ _ _ _ _ _ (inv .2) grown (c .following .ensures))
 
 returns : tie.Need-returns Inv-loop μ-loop
 returns c = upto-done _ 64 _ _ (c .loop-test .left) (c .before .loop .inv .3) (members-out _ (c .before .loop .inv .1) _)
@@ -69,7 +66,7 @@ members-spec =
     loop-holds
     is-member-requires
     with-requires
-    add-e
+    following-requires
     loop-less
     loop-again
     returns)

@@ -5,14 +5,14 @@ use mathlib.Core.Logic.{inl, inr}
 use Prim.Native.Nat.{ℕ, _+_, _-_, _≤_}
 use native.Mathlib.Omega.{arith}
 use Rattle.relation.specs.Rel.{none}
-use Rattle.relation.proofs.GridLaws.{Rows, rows-none-of, rows-set, rows-keep, rows-skip, rows-all}
+use Rattle.relation.proofs.GridLaws.{Rows, rows-none-of, rows-set, rows-keep, rows-all}
 use Rattle.models.specs.Recording.{sameLocation}
 use Rattle.recording.specs.Layout.{Sized, events}
 use Rattle.recording.specs.Chains.{each}
 use Rattle.recording.specs.Decode.{decode}
 use Rattle.recording.specs.Causes.{eventLegal}
 use Rattle.recording.specs.Sets.{AccessRows}
-use Rattle.recording.proofs.GraphLaws.{location-row, location-none, location-gap, location-out}
+use Rattle.recording.proofs.GraphLaws.{location-row, location-none, location-on, location-out}
 use borrow.Author.Needs.{needs}
 use Rattle.recording.proofs.graph.same_location.Statement.{statement}
 use Rattle.recording.proofs.graph.same_location.Tie as tie
@@ -50,27 +50,24 @@ mul-h-2 c = search needs
 array-set-from-h : tie.Need-array-set-from-h Inv-loop μ-loop
 array-set-from-h c = search needs
 
-add-e : tie.Need-add-e Inv-loop μ-loop
-add-e c = elim (c .before .if2 .came) [ inl w ↦ rw (w .1) (search needs) | inr w ↦ rw (w .1) (search needs) ]
+following-requires : tie.Need-following-requires Inv-loop μ-loop
+following-requires c κs = (let turn = c .before .before in let inv = turn .before .loop .inv in (omega (arith, inv .1 .most-events, inv .3), turn .loop-test .taken))
 
 loop-less : tie.Need-loop-less Inv-loop μ-loop
-loop-less c = (let inv = c .before .before .before .before .before .loop .inv in elim (c .before .if2 .came) [ inl w ↦ rw (w .1) (omega (arith, inv .1 .most-events, inv .3, w .0 .taken)) | inr w ↦ rw (w .1) (omega (arith, c .before .before .before .before .loop-test .taken)) ])
+loop-less c = omega (arith, c .following .ensures .above, c .before .before .before .loop-test .taken)
 
 loop-again : tie.Need-loop-again Inv-loop μ-loop
 loop-again c =
-    let turn = c .before .before .before .before in
+    let turn = c .before .before .before in
     let inv = turn .before .loop .inv in
-    let at = c .before .before .before .place-of .ensures in
-    let file = c .before .before .before .before .before .before .before .before .before .before .args .file .now in
-    let grown : Rows (sameLocation (decode file)) none (c .before .before .if1 .h) (turn .before .loop .e + 1)
-    = elim (c .before .before .if1 .came) [
+    let at = c .before .before .place-of .ensures in
+    let file = c .before .before .before .before .before .before .before .before .before .args .file .now in
+    let grown : Rows (sameLocation (decode file)) none (c .before .if1 .h) (turn .before .loop .e + 1)
+    = elim (c .before .if1 .came) [
       | inl w ↦ rw (w .2) (rows-set _ _ _ _ _ (inv .5) (turn .loop-test .taken) (location-row _ (inv .1) (inv .2) _ _ at (w .0 .taken) _ (inv .4 .row _ (w .0 .taken))))
       | inr w ↦ rw (w .1) (rows-keep _ _ _ _ (inv .5) (location-none _ (inv .1) (inv .2) _ _ at (w .0 .left)))
     ] in
-    elim (c .before .if2 .came) [
-      | inl w ↦ rw (w .1) (search needs, inv .1, inv .2, inv .3, inv .4, rows-skip _ _ _ _ 56 grown (omega (arith, inv .1 .most-events, inv .3, w .0 .taken)) (λ m a b. location-gap _ m (omega (arith, inv .3, w .0 .taken)) b))
-      | inr w ↦ rw (w .1) (search needs, inv .1, inv .2, inv .3, inv .4, grown)
-    ]
+    (c .following .ensures .high, inv .1, inv .2, inv .3, inv .4, location-on _ _ _ _ _ (inv .3) grown (c .following .ensures))
 
 returns : tie.Need-returns Inv-loop μ-loop
 returns c = (let inv = c .before .loop .inv in rows-all _ _ _ _ (c .loop-test .left) (inv .5) (location-out _ (inv .1)))
@@ -90,7 +87,7 @@ same-location-spec =
     array-copy-out-h
     mul-h-2
     array-set-from-h
-    add-e
+    following-requires
     loop-less
     loop-again
     returns)
