@@ -4,11 +4,14 @@
 mod answer;
 mod calls;
 mod check;
+#[path = "../../tests/shared/hex.rs"]
 mod hex;
 mod inputs;
 mod library;
 mod measure;
 mod plain;
+#[path = "../../tests/shared/random.rs"]
+mod random;
 mod table;
 
 use std::io::{self, BufRead, BufWriter, Write};

@@ -2,7 +2,7 @@
 //! Assumes drafts that load; that a fault gives its cause is tested by the caller.
 
 use super::draft::{Draft, Link};
-use super::random::Random;
+use crate::random::Random;
 use crate::plain::recording::*;
 
 /// Bytes of the header, of an event record and of a link record.

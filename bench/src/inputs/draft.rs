@@ -1,6 +1,6 @@
 //! A draft: a recording as lists, before it is laid out in bytes.
 
-use super::random::Random;
+use crate::random::Random;
 use crate::plain::recording::Event;
 
 /// Type, source and target.

@@ -4,13 +4,12 @@
 mod damage;
 mod draft;
 mod litmus;
-mod random;
 mod recordings;
 
 use crate::calls::{refusal, rule, written, Call, Function, ARMV8, CALLS, IMM, JUDGE, LOAD, ROOM, TRANSLATE};
 use crate::plain;
 use crate::plain::recording::{CHIP, SOURCE};
-use random::Random;
+use crate::random::Random;
 
 pub type File = Vec<u8>;
 

@@ -3,7 +3,7 @@
 //! and others broken by rules 3, 4 and 5.
 
 use super::draft::{Draft, Link};
-use super::random::Random;
+use crate::random::Random;
 use crate::plain::recording::*;
 
 /// How rf and co stray from one interleaving.

@@ -30,10 +30,10 @@ pub fn acquire_fences(file: &[u8], fences: [u8; 8]) -> [u8; 8]
     ensures { λ r. ⌜ bit r ≡ acquireFence (decode (now (file .entry))) ⌝ }
 {
     let some = row::or(
-        graph::among(file, fences, Members::Mode(3, 1)),
-        graph::among(file, fences, Members::Mode(3, 3)),
+        graph::select(file, fences, Members::Mode(3, 1)),
+        graph::select(file, fences, Members::Mode(3, 3)),
     );
-    row::or(some, graph::among(file, fences, Members::Mode(3, 4)))
+    row::or(some, graph::select(file, fences, Members::Mode(3, 4)))
 }
 
 // Fences of mode 2, 3 or 4.
@@ -42,10 +42,10 @@ pub fn release_fences(file: &[u8], fences: [u8; 8]) -> [u8; 8]
     ensures { λ r. ⌜ bit r ≡ releaseFence (decode (now (file .entry))) ⌝ }
 {
     let some = row::or(
-        graph::among(file, fences, Members::Mode(3, 2)),
-        graph::among(file, fences, Members::Mode(3, 3)),
+        graph::select(file, fences, Members::Mode(3, 2)),
+        graph::select(file, fences, Members::Mode(3, 3)),
     );
-    row::or(some, graph::among(file, fences, Members::Mode(3, 4)))
+    row::or(some, graph::select(file, fences, Members::Mode(3, 4)))
 }
 
 // The sets: all events, initial writes, reads, writes, fences, acquire and exclusive reads, release and strong writes,
@@ -63,15 +63,15 @@ pub fn sets(file: &[u8]) -> [[u8; 8]; 14]
         reads,
         writes,
         fences,
-        graph::among(file, reads, Members::Mode(1, 1)),
-        graph::among(file, reads, Members::Flagged(1)),
-        graph::among(file, writes, Members::Mode(2, 2)),
-        graph::among(file, writes, Members::Flagged(2)),
+        graph::select(file, reads, Members::Mode(1, 1)),
+        graph::select(file, reads, Members::Flagged(1)),
+        graph::select(file, writes, Members::Mode(2, 2)),
+        graph::select(file, writes, Members::Flagged(2)),
         acquire_fences(file, fences),
         release_fences(file, fences),
-        graph::among(file, fences, Members::Mode(3, 4)),
-        graph::among(file, fences, Members::Mode(3, 5)),
-        graph::among(file, fences, Members::Mode(3, 6)),
+        graph::select(file, fences, Members::Mode(3, 4)),
+        graph::select(file, fences, Members::Mode(3, 5)),
+        graph::select(file, fences, Members::Mode(3, 6)),
     ]
 }
 

@@ -18,9 +18,10 @@ use Rattle.judgement.specs.Judgement.{Prints}
 unfoldable pub coded : ℕ → ℕ → ℕ → ℕ
 coded cause rule written = cause + 256 * rule + 65536 * written
 
-unfoldable pub translated : Translation → ℕ
-translated (Refused k) = coded k 0 0
-translated (Written n) = coded 0 0 n
+-- The answer of the translation.
+unfoldable pub codedTranslation : Translation → ℕ
+codedTranslation (Refused k) = coded k 0 0
+codedTranslation (Written n) = coded 0 0 n
 
 -- Of bytes that go to an output: where they fit they fill its start and later bytes stay; else the call is refused with 12 and all bytes stay.
 pub record Stored (rule : ℕ) (bytes out : List ℕ) (answer : ℕ) (left : List ℕ) : Type 0 where

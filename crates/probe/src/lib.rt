@@ -14,7 +14,7 @@ ghost use Rattle.models.specs.Rules.{IMM, ARMv8};
 ghost use Rattle.imm.specs.Judged as imm;
 ghost use Rattle.armv8.specs.Judged as armv8;
 ghost use Rattle.translation.specs.Answer.{translationOf, outputOf};
-ghost use Rattle.probe.specs.Calls.{coded, translated, Stored, Reported, Reports, Printed};
+ghost use Rattle.probe.specs.Calls.{coded, codedTranslation, Stored, Reported, Reports, Printed};
 
 // An answer: the number of the refusal, that of the broken rule, and how many bytes were written.
 fn coded(cause: u8, rule: u8, written: usize) -> u64
@@ -81,7 +81,7 @@ pub extern "C" fn probe_armv8(file: &[u8], out: &mut [u8]) -> u64
 // stays as it was.
 #[no_mangle]
 pub extern "C" fn probe_translate(file: &[u8], out: &mut [u8]) -> u64
-    ensures answer { λ r. ⌜ r ≡ translated (translationOf (now (file .entry)) (length (now (out .entry)))) ⌝ }
+    ensures answer { λ r. ⌜ r ≡ codedTranslation (translationOf (now (file .entry)) (length (now (out .entry)))) ⌝ }
     ensures output { λ _. ⌜ now (out .exit) ≡ outputOf (now (file .entry)) (now (out .entry)) ⌝ }
 {
     match translation::translate(file, out) {

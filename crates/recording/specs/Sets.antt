@@ -1,6 +1,6 @@
--- The sets of events that `Members` names, and arrays of link sources. Assumes nothing.
-use mathlib.Core.Bool.{_&&_}
+-- The sets of events that `Members` names, and what arrays of rows hold of a file: its accesses by location, its links by type. Assumes nothing.
 use mathlib.Core.Path.{_≡_}
+use mathlib.Core.Bool.{_&&_}
 use mathlib.Core.List.{List, []}
 use Prim.Native.Nat.{ℕ, _≤_, _<_}
 use lib.Dec.{eqb}

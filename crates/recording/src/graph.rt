@@ -53,18 +53,18 @@ pub fn members(file: &[u8], s: Members) -> [u8; 8]
 }
 
 // The events of a row that are in s.
-pub fn among(file: &[u8], within: [u8; 8], s: Members) -> [u8; 8]
+pub fn select(file: &[u8], row: [u8; 8], s: Members) -> [u8; 8]
     requires { ⌜ Sized (now file) ⌝ }
-    ensures { λ r. ⌜ bit r ≡ intersection (bit within) (membersOf (now (file .entry)) s) ⌝ }
+    ensures { λ r. ⌜ bit r ≡ intersection (bit row) (membersOf (now (file .entry)) s) ⌝ }
 {
     let mut r = row::none();
-    let mut e = row::first(within);
+    let mut e = row::first(row);
     while e < 64 {
         if is_member(file, s, e) {
             let z = row::with(r, e);
             r = z;
         }
-        e = row::next(within, e + 1);
+        e = row::next(row, e + 1);
     }
     r
 }

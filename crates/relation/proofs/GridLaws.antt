@@ -14,7 +14,7 @@ use lib.Seq.{getD-set-same, getD-set-other}
 use Rattle.relation.specs.Rel.{Set, Rel, empty, none, single, given, pair, union, intersection, difference, either, both, minus, inverse, identity, product, from, into, some, image, chain, through, plus, optional, star, diagonal, below, nodes, least, Next}
 use Rattle.relation.specs.Bits.{bit, edge}
 use Rattle.relation.proofs.ByteLaws.{bit-none, bit-out, on-zero}
-use Rattle.relation.proofs.SetLaws.{or-comm, or-false, or-true, and-false, and-true, Least, least-is}
+use Rattle.relation.proofs.SetLaws.{or-comm, or-false, or-true, and-false, and-true, Least, least-is, skip-to}
 
 -- A row that is not there holds nothing.
 pub bit-nil : bit [] ≡ empty
@@ -128,17 +128,9 @@ image-keep k s r t p e =
     ∙ ap (λ (b : Bool). image (below k) s r j || b) (ap (λ (b : Bool). b && r k j) (sym e)) ∙ sym (image-step k s r j))
 
 -- Events that are not in s add nothing.
-image-skip : (s : Set) (r : Rel) (t : Set) (i d : ℕ) → t ≡ image (below i) s r → ((m : ℕ) → i ≤ m → m < i + d → s m ≡ false)
-    → t ≡ image (below (i + d)) s r
-image-skip s r t i zero p f = p ∙ ap (λ (k : ℕ). image (below k) s r) {x = i} {y = i + 0} (omega arith)
-image-skip s r t i (suc d) p f =
-    image-keep (i + d) s r t (image-skip s r t i d p (λ m g h. f m g (omega arith))) (f (i + d) (omega arith) (omega arith))
-    ∙ ap (λ (k : ℕ). image (below k) s r) {x = i + d + 1} {y = i + suc d} (omega arith)
-
 image-to : (s : Set) (r : Rel) (t : Set) (i k : ℕ) → t ≡ image (below i) s r → i ≤ k → ((m : ℕ) → i ≤ m → m < k → s m ≡ false)
     → t ≡ image (below k) s r
-image-to s r t i k p h f =
-    image-skip s r t i (k - i) p (λ m g l. f m g (omega arith)) ∙ ap (λ (n : ℕ). image (below n) s r) {x = i + (k - i)} {y = k} (omega arith)
+image-to s r t i k p h f = skip-to s (λ n. t ≡ image (below n) s r) (λ n e q. image-keep n s r t q e) i k h f p
 
 -- t is what r reaches from the members of s below i, where i is a member or 64.
 pub record Reached (s : Set) (r : Rel) (t : Set) (i : ℕ) : Type 0 where

@@ -3,7 +3,7 @@
 use mathlib.Core.Path.{_≡_, refl, sym, ap, ap₂, subst, _∙_, fun-ext}
 use mathlib.Core.List.{List, [], _∷_}
 use mathlib.Core.Bool.{Bool, true, false, not, _&&_, _||_, false≢true}
-use Prim.Native.Nat.{ℕ, zero, suc, _+_, _<_, _≤_}
+use Prim.Native.Nat.{ℕ, zero, suc, _+_, _-_, _<_, _≤_}
 use native.Mathlib.Numerals.{add-one}
 use native.Mathlib.Omega.{arith}
 use native.Mathlib.Decide.{ℕ-discrete, decLt}
@@ -132,14 +132,19 @@ upto-keep k s t p e =
     (λ j. ap (λ (f : Set). f j) p ∙ sym (or-false (upto k s j))
     ∙ ap (λ (b : Bool). upto k s j || b) (sym (only s k j false e ∙ and-false (eqb k j))) ∙ sym (upto-split k s j))
 
-pub upto-skip : (k n : ℕ) (s t : Set) → k ≤ n → t ≡ upto k s → ((j : ℕ) → k ≤ j → j < n → s j ≡ false) → t ≡ upto n s
-unfolding upto
-upto-skip k n s t h p out = p ∙ fun-ext (λ j. go j (decLt j k) (decLt j n))
+-- What goes from k to k + 1 where k is not in s goes on to the next number that may be.
+pub skip-to : (s : Set) (P : ℕ → Type 0) → ((k : ℕ) → s k ≡ false → P k → P (k + 1)) → (i k : ℕ) → i ≤ k → ((m : ℕ) → i ≤ m → m < k → s m ≡ false)
+    → P i → P k
+skip-to s P step i k h f p = subst P {x = i + (k - i)} {y = k} (omega arith) (go (k - i) (λ m a b. f m a (omega arith)))
   where
-    go : (j : ℕ) → Dec (j < k) → Dec (j < n) → ltb j k && s j ≡ ltb j n && s j
-    go j (yes a) b = ap (λ (x : Bool). x && s j) (lt-ltb j k a ∙ sym (lt-ltb j n (omega arith)))
-    go j (no a) (yes b) = ap (λ (x : Bool). ltb j k && x) (out j (omega (arith, a)) b) ∙ and-false (ltb j k) ∙ sym (ap (λ (x : Bool). ltb j n && x) (out j (omega (arith, a)) b) ∙ and-false (ltb j n))
-    go j (no a) (no b) = ap (λ (x : Bool). x && s j) (le-ltb j k (omega (arith, a)) ∙ sym (le-ltb j n (omega (arith, b))))
+    go : (d : ℕ) → ((m : ℕ) → i ≤ m → m < i + d → s m ≡ false) → P (i + d)
+    go zero g = subst P {x = i} {y = i + 0} (omega arith) p
+    go (suc d) g =
+        subst P {x = i + d + 1} {y = i + suc d} (omega arith)
+        (step (i + d) (g (i + d) (omega arith) (omega arith)) (go d (λ m a b. g m a (omega arith))))
+
+pub upto-skip : (k n : ℕ) (s t : Set) → k ≤ n → t ≡ upto k s → ((j : ℕ) → k ≤ j → j < n → s j ≡ false) → t ≡ upto n s
+upto-skip k n s t h p out = skip-to s (λ i. t ≡ upto i s) (λ i e q. upto-keep i s t q e) k n h out p
 
 pub upto-done : (k n : ℕ) (s t : Set) → n ≤ k → t ≡ upto k s → ((j : ℕ) → n ≤ j → s j ≡ false) → t ≡ s
 unfolding upto

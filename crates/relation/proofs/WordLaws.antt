@@ -13,7 +13,7 @@ use lib.Bits.{bitAnd, bitOr, and-mask, or-shifted, shifted-even}
 use lib.Count.{ones, ones-step, ones-le, trailingZeros, under, trailing-le}
 use lib.ListN.{length, getD, List·getD-eq-default}
 use Rattle.relation.specs.Rel.{Set, least, count, Next}
-use Rattle.relation.specs.Bits.{on, bit, word}
+use Rattle.relation.specs.Bits.{on, bit}
 use Rattle.relation.proofs.ByteLaws.{on-or, on-zero, bit-in, bit-out}
 use Rattle.relation.proofs.SetLaws.{or-false, Least, least-is}
 
@@ -42,6 +42,11 @@ on-joined : (b w j : ℕ) → b < 256 → on (b + 256 * w) j ≡ on (w * 2 ^ 8) 
 on-joined b w j h =
     let e : b + 256 * w ≡ bitOr (w * 2 ^ 8) b = omega arith ∙ sym (or-shifted w 8 b h) in
     ap (λ (n : ℕ). on n j) e ∙ on-or (w * 2 ^ 8) b j
+
+-- The bytes of a row as one number, the lowest first.
+word : List ℕ → ℕ
+word [] = 0
+word (b ∷ row) = b + 256 * word row
 
 on-word : (row : List ℕ) → ((k : ℕ) → getD row k 0 < 256) → (j : ℕ) → on (word row) j ≡ on (getD row (j / 8) 0) (j % 8)
 unfolding word

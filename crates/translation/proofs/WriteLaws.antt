@@ -10,7 +10,7 @@ use borrow.Author.Tests.{le-leb}
 use lib.Dec.{leb}
 use lib.ListN.{length, getD}
 use Rattle.relation.specs.Rel.{Set, Rel, inverse, least, count, Next}
-use Rattle.relation.proofs.SetLaws.{Least, least-is}
+use Rattle.relation.proofs.SetLaws.{Least, least-is, skip-to}
 use Rattle.recording.specs.Layout.{eventByte}
 use Rattle.recording.specs.Chains.{startOf}
 use Rattle.translation.specs.Contents.{Contents, contents}
@@ -142,24 +142,9 @@ module _ (part₀ : List ℕ) (row : Set) (t last n : ℕ) where
         done = w .done ∙ ap (placed part₀ (4 * n)) (sym (ap (records (rowRecord t last n row) row) (add-one a) ∙ records-no (rowRecord t last n row) row a e));
       }
 
-  row-skip : (a d m : ℕ) (part : List ℕ) → RowWritten part₀ row t last n a m part → ((j : ℕ) → a ≤ j → j < a + d → row j ≡ false)
-      → RowWritten part₀ row t last n (a + d) m part
-  row-skip a zero m part w f = subst (λ (k : ℕ). RowWritten part₀ row t last n k m part) (same a) w
-    where
-      same : (a : ℕ) → a ≡ a + 0
-      same a = omega arith
-  row-skip a (suc d) m part w f =
-      subst (λ (k : ℕ). RowWritten part₀ row t last n k m part) (same a d)
-      (row-no (a + d) m part (row-skip a d m part w (λ j g h. f j g (omega arith))) (f (a + d) (omega arith) (omega arith)))
-    where
-      same : (a d : ℕ) → a + d + 1 ≡ a + suc d
-      same a d = omega arith
-
   row-to : (a k m : ℕ) (part : List ℕ) → RowWritten part₀ row t last n a m part → a ≤ k → ((j : ℕ) → a ≤ j → j < k → row j ≡ false)
       → RowWritten part₀ row t last n k m part
-  row-to a k m part w h f =
-      let same : a + (k - a) ≡ k = omega arith in
-      subst (λ (x : ℕ). RowWritten part₀ row t last n x m part) same (row-skip a (k - a) m part w (λ j g l. f j g (omega arith)))
+  row-to a k m part w h f = skip-to row (λ i. RowWritten part₀ row t last n i m part) (λ i e q. row-no i m part q e) a k h f w
 
   -- Where the writer stands: at a source, or behind all.
   pub record RowAt (a m : ℕ) (part : List ℕ) : Type 0 where

@@ -7,9 +7,12 @@
 //! `judge` what the judge prints, with `;` for a line feed, and `verdicts` the same, made of what the calls for the verdicts answer.
 //! Every output lies between guard bytes. With `-rooms` it is lent three times: longer than the answer, as long, and one byte shorter.
 
+#[path = "../../shared/hex.rs"]
+mod hex;
 mod lent;
 mod verdicts;
 
+use hex::{from_hex, to_hex};
 use lent::{at_each_room, lent, Answer, MOST};
 use std::io::{self, BufRead, BufWriter, Write};
 use std::process::exit;
@@ -30,7 +33,7 @@ fn load(file: &[u8]) -> String {
 
 fn translation(answer: Answer) -> String {
     match (answer.refusal, answer.rule) {
-        (0, 0) => answer.bytes.iter().map(|b| format!("{b:02x}")).collect(),
+        (0, 0) => to_hex(&answer.bytes),
         (cause, 0) => format!("refused {cause}"),
         (_, rule) => format!("broken rule {rule} of a translation"),
     }
@@ -41,21 +44,6 @@ fn lines(answer: Answer) -> String {
         (0, 0) => String::from_utf8_lossy(&answer.bytes).replace('\n', ";"),
         (cause, rule) => format!("refusal {cause} and broken rule {rule} of lines"),
     }
-}
-
-fn from_hex(line: &str) -> Option<Vec<u8>> {
-    let digits = line.as_bytes();
-    if digits.len() % 2 != 0 {
-        return None;
-    }
-    digits
-        .chunks(2)
-        .map(|pair| {
-            let high = (pair[0] as char).to_digit(16)?;
-            let low = (pair[1] as char).to_digit(16)?;
-            Some((high * 16 + low) as u8)
-        })
-        .collect()
 }
 
 fn main() -> io::Result<()> {

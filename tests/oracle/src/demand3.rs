@@ -3,7 +3,7 @@
 
 use crate::execution::Execution;
 use crate::generate::draft_of_kind;
-use crate::handmade::to_hex;
+use crate::hex::to_hex;
 use crate::random::Random;
 use crate::recording::{load, SOURCE};
 use crate::rules::{judge_armv8, judge_imm};

@@ -1,23 +1,11 @@
 //! Helpers for files made by hand: texts of hexadecimal digits, records put together, single bytes set.
 
+use crate::hex::from_hex;
+
 /// The bytes of a text of hexadecimal digits; blanks and the bars between records are left out.
 pub fn bytes(text: &str) -> Vec<u8> {
     let digits: String = text.chars().filter(|c| !c.is_whitespace() && *c != '|').collect();
     from_hex(&digits).expect("a text of hexadecimal digits")
-}
-
-pub fn to_hex(file: &[u8]) -> String {
-    file.iter().map(|b| format!("{b:02x}")).collect()
-}
-
-/// The bytes of a line of hexadecimal digits, or nothing if it is none.
-pub fn from_hex(line: &str) -> Option<Vec<u8>> {
-    let digits: Option<Vec<u32>> = line.chars().map(|c| c.to_digit(16)).collect();
-    let digits = digits?;
-    if digits.len() % 2 != 0 {
-        return None;
-    }
-    Some(digits.chunks(2).map(|d| (16 * d[0] + d[1]) as u8).collect())
 }
 
 /// An event record but for its first link: next, class, mode, flag, location, value low, value high.

@@ -14,8 +14,11 @@ mod generate_links;
 mod generate_rings;
 mod generate_syncs;
 mod handmade;
+#[path = "../../shared/hex.rs"]
+mod hex;
 mod litmus;
 mod models;
+#[path = "../../shared/random.rs"]
 mod random;
 mod recording;
 mod relation;
@@ -26,7 +29,8 @@ mod shown;
 mod translation;
 mod worked;
 
-use handmade::{bytes, from_hex, outcome, to_hex};
+use handmade::{bytes, outcome};
+use hex::{from_hex, to_hex};
 use std::io::{self, BufRead, BufWriter, Write};
 use std::process::exit;
 

@@ -2,7 +2,8 @@
 
 use crate::boundary;
 use crate::damage::any_file;
-use crate::handmade::{bytes, outcome, to_hex};
+use crate::handmade::{bytes, outcome};
+use crate::hex::to_hex;
 use crate::litmus;
 use crate::random::Random;
 use crate::recording::load;

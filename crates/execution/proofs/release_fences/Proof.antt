@@ -9,17 +9,17 @@ use borrow.Author.Needs.{needs}
 use Rattle.execution.proofs.release_fences.Statement.{statement}
 use Rattle.execution.proofs.release_fences.Tie as tie
 
-among-requires : tie.Need-among-requires
-among-requires c κs = search (needs, loaded-sized)
+select-requires : tie.Need-select-requires
+select-requires c κs = search (needs, loaded-sized)
 
-among-requires-2 : tie.Need-among-requires-2
-among-requires-2 c κs = search (needs, loaded-sized)
+select-requires-2 : tie.Need-select-requires-2
+select-requires-2 c κs = search (needs, loaded-sized)
 
 or-requires : tie.Need-or-requires
 or-requires c κs = search needs
 
-among-requires-3 : tie.Need-among-requires-3
-among-requires-3 c κs = search (needs, loaded-sized)
+select-requires-3 : tie.Need-select-requires-3
+select-requires-3 c κs = search (needs, loaded-sized)
 
 or-requires-2 : tie.Need-or-requires-2
 or-requires-2 c κs = search needs
@@ -29,9 +29,9 @@ unfolding releaseFence union membersOf
 returns c =
     let fences = c .before .before .before .before .before .before .pre .1 in
     c .or2 .ensures
-    ∙ ap₂ union (c .before .before .or .ensures ∙ ap₂ union (c .before .before .before .before .among .ensures ∙ mode-among _ _ _ _ fences) (c .before .before .before .among2 .ensures ∙ mode-among _ _ _ _ fences)) (c .before .among3 .ensures ∙ mode-among _ _ _ _ fences)
+    ∙ ap₂ union (c .before .before .or .ensures ∙ ap₂ union (c .before .before .before .before .select .ensures ∙ mode-among _ _ _ _ fences) (c .before .before .before .select2 .ensures ∙ mode-among _ _ _ _ fences)) (c .before .select3 .ensures ∙ mode-among _ _ _ _ fences)
 
 pub release-fences-spec : {M : Type 1} → statement M
 release-fences-spec =
     tie.close
-    (tie.spec among-requires among-requires-2 or-requires among-requires-3 or-requires-2 returns)
+    (tie.spec select-requires select-requires-2 or-requires select-requires-3 or-requires-2 returns)

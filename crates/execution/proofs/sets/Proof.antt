@@ -24,17 +24,17 @@ events-requires c κs = search needs
 members-requires-4 : tie.Need-members-requires-4
 members-requires-4 c κs = search (needs, loaded-sized)
 
-among-requires : tie.Need-among-requires
-among-requires c κs = search (needs, loaded-sized)
+select-requires : tie.Need-select-requires
+select-requires c κs = search (needs, loaded-sized)
 
-among-requires-2 : tie.Need-among-requires-2
-among-requires-2 c κs = search (needs, loaded-sized)
+select-requires-2 : tie.Need-select-requires-2
+select-requires-2 c κs = search (needs, loaded-sized)
 
-among-requires-3 : tie.Need-among-requires-3
-among-requires-3 c κs = search (needs, loaded-sized)
+select-requires-3 : tie.Need-select-requires-3
+select-requires-3 c κs = search (needs, loaded-sized)
 
-among-requires-4 : tie.Need-among-requires-4
-among-requires-4 c κs = search (needs, loaded-sized)
+select-requires-4 : tie.Need-select-requires-4
+select-requires-4 c κs = search (needs, loaded-sized)
 
 acquire-fences-requires : tie.Need-acquire-fences-requires
 unfolding membersOf
@@ -44,14 +44,14 @@ release-fences-requires : tie.Need-release-fences-requires
 unfolding membersOf
 release-fences-requires c κs = (c .before .before .before .before .before .before .before .before .before .before .before .pre, c .before .before .before .before .before .before .before .members3 .ensures)
 
-among-requires-5 : tie.Need-among-requires-5
-among-requires-5 c κs = search (needs, loaded-sized)
+select-requires-5 : tie.Need-select-requires-5
+select-requires-5 c κs = search (needs, loaded-sized)
 
-among-requires-6 : tie.Need-among-requires-6
-among-requires-6 c κs = search (needs, loaded-sized)
+select-requires-6 : tie.Need-select-requires-6
+select-requires-6 c κs = search (needs, loaded-sized)
 
-among-requires-7 : tie.Need-among-requires-7
-among-requires-7 c κs = loaded-sized _ (c .before .before .before .before .before .before .before .before .before .before .before .before .before .before .pre)
+select-requires-7 : tie.Need-select-requires-7
+select-requires-7 c κs = loaded-sized _ (c .before .before .before .before .before .before .before .before .before .before .before .before .before .before .pre)
 
 returns : tie.Need-returns
 unfolding decode membersOf
@@ -66,15 +66,15 @@ returns c =
         | R ↦ reads
         | W ↦ writes
         | F ↦ fences
-        | Racq ↦ c .before .before .before .before .before .before .before .before .among .ensures ∙ mode-among _ _ _ _ reads
-        | Rex ↦ c .before .before .before .before .before .before .before .among2 .ensures ∙ flag-among _ _ _ reads
-        | Wrel ↦ c .before .before .before .before .before .before .among3 .ensures ∙ mode-among _ _ _ _ writes
-        | Wstrong ↦ c .before .before .before .before .before .among4 .ensures ∙ flag-among _ _ _ writes
+        | Racq ↦ c .before .before .before .before .before .before .before .before .select .ensures ∙ mode-among _ _ _ _ reads
+        | Rex ↦ c .before .before .before .before .before .before .before .select2 .ensures ∙ flag-among _ _ _ reads
+        | Wrel ↦ c .before .before .before .before .before .before .select3 .ensures ∙ mode-among _ _ _ _ writes
+        | Wstrong ↦ c .before .before .before .before .before .select4 .ensures ∙ flag-among _ _ _ writes
         | Facq ↦ c .before .before .before .before .acquire-fences .ensures
         | Frel ↦ c .before .before .before .release-fences .ensures
-        | Fsc ↦ c .before .before .among5 .ensures ∙ mode-among _ _ _ _ fences
-        | Fld ↦ c .before .among6 .ensures ∙ mode-among _ _ _ _ fences
-        | Fsy ↦ c .among7 .ensures ∙ mode-among _ _ _ _ fences
+        | Fsc ↦ c .before .before .select5 .ensures ∙ mode-among _ _ _ _ fences
+        | Fld ↦ c .before .select6 .ensures ∙ mode-among _ _ _ _ fences
+        | Fsy ↦ c .select7 .ensures ∙ mode-among _ _ _ _ fences
       ];
     }
 
@@ -87,13 +87,13 @@ sets-spec =
     members-requires-3
     events-requires
     members-requires-4
-    among-requires
-    among-requires-2
-    among-requires-3
-    among-requires-4
+    select-requires
+    select-requires-2
+    select-requires-3
+    select-requires-4
     acquire-fences-requires
     release-fences-requires
-    among-requires-5
-    among-requires-6
-    among-requires-7
+    select-requires-5
+    select-requires-6
+    select-requires-7
     returns)

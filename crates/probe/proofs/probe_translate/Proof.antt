@@ -1,7 +1,7 @@
 -- `probe_translate` meets its contract: the answer as a number. Assumes nothing.
 use mathlib.Core.Path.{ap, sym, _∙_}
 use Rattle.judgement.proofs.ChipLaws.{written-short}
-use Rattle.probe.specs.Calls.{translated}
+use Rattle.probe.specs.Calls.{codedTranslation}
 use borrow.Author.Needs.{needs}
 use Rattle.probe.proofs.probe_translate.Statement.{statement}
 use Rattle.probe.proofs.probe_translate.Tie as tie
@@ -25,15 +25,15 @@ same-length : tie.Need-same-length
 same-length c = search needs
 
 returns : tie.Need-returns
-unfolding translated
-returns c = (let t = c .before .before .before .before .before .before .translate in (c .coded .ensures ∙ ap translated (sym (c .before .before .k .given .1) ∙ t .ensures .0), t .ensures .1))
+unfolding codedTranslation
+returns c = (let t = c .before .before .before .before .before .before .translate in (c .coded .ensures ∙ ap codedTranslation (sym (c .before .before .k .given .1) ∙ t .ensures .0), t .ensures .1))
 
 same-length-2 : tie.Need-same-length-2
 same-length-2 c = search needs
 
 returns-2 : tie.Need-returns-2
-unfolding translated
-returns-2 c = (let t = c .before .before .before .before .before .before .translate in (c .coded2 .ensures ∙ ap translated (sym (c .before .before .n .given .1) ∙ t .ensures .0), t .ensures .1))
+unfolding codedTranslation
+returns-2 c = (let t = c .before .before .before .before .before .before .translate in (c .coded2 .ensures ∙ ap codedTranslation (sym (c .before .before .n .given .1) ∙ t .ensures .0), t .ensures .1))
 
 pub probe-translate-spec : {M : Type 1} → statement M
 probe-translate-spec =

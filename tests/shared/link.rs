@@ -1,4 +1,4 @@
-//! Links the probe's static library, whose folder PROBE_LIB names.
+//! Links the probe's static library, whose folder PROBE_LIB names: the build script of the batch driver and the benchmark.
 
 fn main() {
     let folder = std::env::var("PROBE_LIB").expect("PROBE_LIB names the folder of libprobe.a");

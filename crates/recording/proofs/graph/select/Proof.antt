@@ -1,4 +1,4 @@
--- `graph::among` meets its contract, member by member. Assumes nothing.
+-- `graph::select` meets its contract, member by member. Assumes nothing.
 use mathlib.Core.Path.{sym, _∙_}
 use mathlib.Core.Logic.{inl, inr}
 use Prim.Native.Nat.{_-_}
@@ -9,14 +9,14 @@ use Rattle.recording.specs.Layout.{Sized}
 use Rattle.recording.specs.Sets.{membersOf}
 use Rattle.recording.proofs.GraphLaws.{Found, found-first, found-with, found-keep, found-all}
 use borrow.Author.Needs.{needs}
-use Rattle.recording.proofs.graph.among.Statement.{statement}
-use Rattle.recording.proofs.graph.among.Tie as tie
+use Rattle.recording.proofs.graph.select.Statement.{statement}
+use Rattle.recording.proofs.graph.select.Tie as tie
 
 abbrev Inv-loop : tie.InvT-loop
-Inv-loop file within s r₀ e₀ r e = Sized file × Found (bit within) (membersOf file s) (bit r) e
+Inv-loop file row s r₀ e₀ r e = Sized file × Found (bit row) (membersOf file s) (bit r) e
 
 abbrev μ-loop : tie.MeasureT-loop
-μ-loop file within s r₀ e₀ r e = 64 - e
+μ-loop file row s r₀ e₀ r e = 64 - e
 
 none-requires : tie.Need-none-requires Inv-loop μ-loop
 none-requires c κs = search needs
@@ -55,8 +55,8 @@ loop-again c =
 returns : tie.Need-returns Inv-loop μ-loop
 returns c = (let inv = c .before .loop .inv in found-all _ _ (bit-out _) _ _ (c .loop-test .left) (inv .1))
 
-pub among-spec : {M : Type 1} → statement M
-among-spec =
+pub select-spec : {M : Type 1} → statement M
+select-spec =
     tie.close
     (tie.spec
     Inv-loop

@@ -1,4 +1,4 @@
-//! Files as lines of hexadecimal digits.
+//! Files as lines of hexadecimal digits. A module of the oracle, the batch driver and the benchmark.
 
 pub fn to_hex(file: &[u8]) -> String {
     file.iter().map(|b| format!("{b:02x}")).collect()
