@@ -163,6 +163,15 @@ module _ (limit : ℕ) (next : ℕ → ℕ) where
   ended-positive y end m = absurd (false≢true m)
   ended-positive y (step {x = x} {l = l} p q w) m = elim (among-cases y x l m) [ inl e ↦ omega (arith, e, p) | inr k ↦ ended-positive y w k ]
 
+  -- A chain from 0 is empty; one from another number goes on from what follows it.
+  pub ended-end : {x : ℕ} {k : List ℕ} → Ended limit next x k → x ≡ 0 → k ≡ []
+  ended-end end e = refl
+  ended-end (step p q w) e = absurd (omega arith)
+
+  pub ended-after : (a : ℕ) {k : List ℕ} → Ended limit next a k → 1 ≤ a → (l : List ℕ) × Ended limit next (next a) l × (k ≡ a ∷ l) × (a ≤ limit)
+  ended-after a end h = absurd (omega arith)
+  ended-after a (step {l = l} p q w) h = (l, w, refl, q)
+
   -- What follows a number of the chain is 0 or on the chain.
   pub ended-next : (y : ℕ) {x : ℕ} {l : List ℕ} → Ended limit next x l → among y l ≡ true → next y ≤ limit
   unfolding among

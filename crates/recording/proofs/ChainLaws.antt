@@ -212,7 +212,7 @@ module _ (limit : ℕ) (next start : ℕ → ℕ) where
       }
 
   -- an unsound chain leaves all unsound
-  unsound-on : (n j : ℕ) → j ≤ n → fresh limit [] (met limit next start j) ≡ false → fresh limit [] (met limit next start n) ≡ false
+  pub unsound-on : (n j : ℕ) → j ≤ n → fresh limit [] (met limit next start j) ≡ false → fresh limit [] (met limit next start n) ≡ false
   unfolding met
   unsound-on zero j h p =
       let e : j ≡ zero = omega arith in subst (λ (k : ℕ). fresh limit [] (met limit next start k) ≡ false) e p

@@ -11,15 +11,14 @@ use borrow.Author.Tests.{eq-eqb, ne-eqb, eqb-true, lt-leb, le-ltb, ltb-true, leb
 use lib.Dec.{eqb, leb, ltb}
 use lib.ListN.{length, getD, set, replicate, length-set}
 use lib.Seq.{getD-set-same, getD-set-other}
-use Rattle.relation.specs.Rel.{least, Next, Set, Rel, empty, none, single, union, intersection, product, inverse, either, both, some, below, plus, nodes}
+use Rattle.relation.specs.Rel.{least, Next, Set, Rel, empty, none, single, union, intersection, product, inverse, either, both, some, below}
 use Rattle.relation.specs.Bits.{bit, edge}
 use Rattle.relation.proofs.GridLaws.{Rows, rows-skip}
 use Rattle.relation.proofs.Meaning.{Mem, and-left, and-right, and-both, or-either, or-left, or-right, some-sound, some-complete, mem-below, below-mem}
 use Rattle.relation.proofs.SetLaws.{and-false, Least, least-is, upto, upto-none, upto-with, upto-keep, upto-skip, upto-done}
 use Rattle.models.specs.Recording.{Recording, event, ofClass, ofMode, flagged, access, sameLocation, coStep}
-use Rattle.models.specs.Graph.{base}
-use Rattle.recording.specs.Layout.{events, locations, eventByte, Sized}
-use Rattle.recording.specs.Chains.{each, nextEvent}
+use Rattle.recording.specs.Layout.{events, locations, Sized}
+use Rattle.recording.specs.Chains.{each}
 use Rattle.recording.specs.Decode.{isRecorded, isInitial, decode, recordOr, fieldOr}
 use Rattle.recording.specs.Causes.{legal, eventLegal, readLegal, writeLegal}
 use Rattle.recording.specs.Sets.{accessAt, membersOf, Following, AccessRows, SourcesInto, LinkRows}
@@ -27,7 +26,6 @@ use Rattle.recording.specs.declared.Members.{Members}
 use Rattle.recording.specs.declared.Members.the-variants.{Recorded, Initial, Class, Mode, Flagged}
 use Rattle.recording.proofs.FieldLaws.{recorded-bounds, event-small, location-initial}
 use Rattle.recording.proofs.ChainLaws.{each-at}
-use Rattle.recording.proofs.LegalLaws.{next-first}
 use Rattle.recording.proofs.LinkLaws.{empty-row}
 
 -- A test that is true only of numbers below 64 is false from 64 on.
@@ -163,38 +161,6 @@ module _ (f : List ℕ) (s : Members) (e : ℕ) (b : Bool) where
   unfolding membersOf
   of-flagged k p q = of-case (Flagged k) p q
 
--- The row of the event that follows a.
-module _ (f : List ℕ) (a : ℕ) where
-  pub next-row-none : (s : Set) → s ≡ empty → isRecorded f a ≡ false → s ≡ decode f .next a
-  unfolding decode empty
-  next-row-none s e p = e ∙ fun-ext (λ x. rw p)
-
-  next-at : (b x : ℕ) → b ≡ eventByte f a 0 → isRecorded f a ≡ true → decode f .next a x ≡ isRecorded f x && eqb b x
-  unfolding decode
-  next-at b x e p = rw p (ap (λ (y : ℕ). isRecorded f x && eqb y x) (sym (e ∙ next-first f a)))
-
-  pub next-row-end : (b : ℕ) (s : Set) → s ≡ empty → b ≡ eventByte f a 0 → isRecorded f a ≡ true → isRecorded f b ≡ false → s ≡ decode f .next a
-  unfolding empty
-  next-row-end b s e q p o =
-      e ∙ fun-ext
-      (λ x. sym (next-at b x q p ∙ elim (ℕ-discrete b x) [
-        | yes i ↦ ap (λ (c : Bool). c && eqb b x) (ap (isRecorded f) (sym i) ∙ o)
-        | no d ↦ ap (λ (c : Bool). isRecorded f x && c) (ne-eqb b x d) ∙ and-false (isRecorded f x)
-      ]))
-
-  pub next-row-some : (b : ℕ) (s t : Set) → s ≡ empty → t ≡ union s (single b) → b ≡ eventByte f a 0 → isRecorded f a ≡ true → isRecorded f b ≡ true
-      → t ≡ decode f .next a
-  unfolding empty union single
-  next-row-some b s t e u q p o =
-      u ∙ fun-ext
-      (λ x. ap (λ (v : Set). v x || eqb b x) e ∙ sym (next-at b x q p ∙ elim (ℕ-discrete b x) [
-        | yes i ↦ ap (λ (c : Bool). c && eqb b x) (ap (isRecorded f) (sym i) ∙ o)
-        | no d ↦ ap (λ (c : Bool). isRecorded f x && c) (ne-eqb b x d) ∙ and-false (isRecorded f x) ∙ sym (ne-eqb b x d)
-      ]))
-
-pub next-out : (f : List ℕ) → Sized f → (a : ℕ) → 64 ≤ a → decode f .next a ≡ empty
-next-out f s a h = sym (next-row-none f a empty refl (recorded-out f s a h))
-
 -- The links into what is no record.
 pub link-none : (f : List ℕ) (t b : ℕ) (s : Set) → s ≡ empty → isRecorded f b ≡ false → s ≡ inverse (decode f .link t) b
 unfolding decode inverse empty
@@ -223,12 +189,6 @@ link-rows f e rf co rmw da ad ct ca p1 p2 p3 p4 p5 p6 p7 = record { grid = go }
     go (suc (suc (suc (suc (suc (suc zero)))))) h k = p6
     go (suc (suc (suc (suc (suc (suc (suc zero))))))) h k = p7
     go (suc (suc (suc (suc (suc (suc (suc (suc t)))))))) h k = absurd (omega arith)
-
--- Program order, as the code makes it.
-pub po-is : (f : List ℕ) (i e : Set) (a b c d : Rel) → i ≡ isInitial f → e ≡ isRecorded f → a ≡ product i e → c ≡ decode f .next → d ≡ plus nodes c
-    → b ≡ either a d → b ≡ base nodes (decode f) .po
-unfolding base decode product
-po-is f i e a b c d p q u v w o = o ∙ ap₂ either (u ∙ ap₂ product p q) (w ∙ ap (plus nodes) v)
 
 -- In a file whose events are legal, reads and writes have one of its locations.
 legal-read-location : (k L class mode flag location value : ℕ) → class ≡ 1 → legal k L class mode flag location value ≡ true → location < L

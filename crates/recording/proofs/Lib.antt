@@ -7,6 +7,7 @@ pub mod GraphLaws
 pub mod CauseLaws
 pub mod Truth
 pub mod ChainFacts
+pub mod ThreadLaws
 pub mod Accepted
 pub mod Loaded
 pub mod Longest

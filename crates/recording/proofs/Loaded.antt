@@ -25,7 +25,7 @@ use Rattle.recording.proofs.Truth.{is-true, holds}
 use Rattle.recording.proofs.FieldLaws.{recorded-bounds, recorded-is, field-initial, event-small}
 use Rattle.recording.proofs.ChainLaws.{each-at}
 use Rattle.recording.proofs.CauseLaws.{source-event, chained, readable-of, legal-of}
-use Rattle.recording.proofs.ChainFacts.{Ended, end, step, among-cases, chain-ended, met-cases, one-chain}
+use Rattle.recording.proofs.ChainFacts.{Ended, end, step, among-cases, ended-after, chain-ended, met-cases, one-chain}
 use Rattle.recording.proofs.Accepted.{Accepted, accepted, sized, legal-event, threads-sound, links-legal, legal-link}
 
 -- The chain from x is one list.
@@ -47,10 +47,6 @@ ended-from limit next a (step {x = x} {l = l} p q w) m =
     ]
 
 -- What follows a number of a chain is on the chain, or 0.
-ended-after : (limit : ℕ) (next : ℕ → ℕ) (a : ℕ) {k : List ℕ} → Ended limit next a k → 1 ≤ a → (l : List ℕ) × Ended limit next (next a) l × (k ≡ a ∷ l)
-ended-after limit next a end h = absurd (omega arith)
-ended-after limit next a (step {l = l} p q w) h = (l, w, refl)
-
 next-among : (limit : ℕ) (next : ℕ → ℕ) (a b : ℕ) {x : ℕ} {l : List ℕ} → Ended limit next x l → among a l ≡ true → next a ≡ b → 1 ≤ b → among b l ≡ true
 unfolding among
 next-among limit next a b end m e h = absurd (false≢true m)
@@ -133,7 +129,7 @@ module _ (f : List ℕ) (a : Accepted f) where
   longer : (x y : ℕ) → decode f .next x y ≡ true → {j k : List ℕ} → Ended (events f) (nextEvent f) x j → Ended (events f) (nextEvent f) y k → length j ≡ suc (length k)
   longer x y p {j} {k} u v =
       let (h, g) = recorded-bounds f x (next-from x y p) in
-      let (l, w, e) = ended-after (events f) (nextEvent f) x u h in
+      let (l, w, e, q) = ended-after (events f) (nextEvent f) x u h in
       ap length e ∙ ap suc (ap length (ended-unique (events f) (nextEvent f) (subst (λ (z : ℕ). Ended (events f) (nextEvent f) z l) (follows x y p) w) v))
 
   shorter-path : (x y : ℕ) → Plus (λ u v. T (decode f .next u v)) x y → {j k : List ℕ} → Ended (events f) (nextEvent f) x j → Ended (events f) (nextEvent f) y k
@@ -414,3 +410,6 @@ loaded-readable f p = (let a = accepted f p in readable-of f (chained f (sized f
 
 pub loaded-legal : (f : List ℕ) → refusal f ≡ 0 → each (events f) (eventLegal f) ≡ true
 loaded-legal f p = legal-of f (accepted f p .cause5)
+
+pub loaded-threads : (f : List ℕ) → refusal f ≡ 0 → threadsSound f ≡ true
+loaded-threads f p = threads-sound f (accepted f p)

@@ -4,7 +4,7 @@ use mathlib.Core.Bool.{Bool, true, false, _&&_, _||_, not}
 use mathlib.Core.List.{List, [], _∷_, _++_}
 use Prim.Native.Nat.{ℕ, zero, suc, _+_, _-_, _*_, _<_, _≤_}
 use lib.Dec.{eqb, leb}
-use lib.ListN.{length, getD}
+use lib.ListN.{length, getD, take}
 use Rattle.recording.specs.Layout.{byte, events, links, headerSize, eventSize, linkSize, linkStart, threads}
 
 -- Whether x stands in the list.
@@ -100,3 +100,8 @@ pushed (x ∷ xs) l = pushed xs (x ∷ l)
 pub record Followed (limit : ℕ) (l chain : List ℕ) (sound : Bool) (marks : List ℕ) : Type 0 where
   pub answer : sound ≡ fresh limit l chain
   pub marked : sound ≡ true → Marked (pushed chain l) marks
+
+-- The first len of `at` are the events of the first n threads, each thread in its order, one thread behind the other.
+pub record Line (f : List ℕ) (n len : ℕ) (at : List ℕ) : Type 0 where
+  pub bounded : len ≤ 64
+  pub listed : take len at ≡ met (events f) (nextEvent f) (head f) n

@@ -4,6 +4,7 @@ use crate::Members;
 use crate::field;
 use crate::legal;
 use crate::links;
+use crate::thread;
 use relation::grid;
 use relation::row;
 ghost use mathlib.Core.Path.{_≡_};
@@ -15,7 +16,7 @@ ghost use Rattle.relation.specs.Rel.{nodes, inverse, intersection};
 ghost use Rattle.models.specs.Recording.{sameLocation, coStep};
 ghost use Rattle.models.specs.Graph.{base};
 ghost use Rattle.recording.specs.Layout.{events, Sized};
-ghost use Rattle.recording.specs.Chains.{each};
+ghost use Rattle.recording.specs.Chains.{each, threadsSound};
 ghost use Rattle.recording.specs.Decode.{decode};
 ghost use Rattle.recording.specs.Causes.{eventLegal, Readable};
 ghost use Rattle.recording.specs.Sets.{accessAt, membersOf, AccessRows, SourcesInto, LinkRows};
@@ -69,45 +70,29 @@ pub fn select(file: &[u8], row: [u8; 8], s: Members) -> [u8; 8]
     r
 }
 
-// The event that directly follows a in its thread, if there is one.
-pub fn next_row(file: &[u8], a: usize) -> [u8; 8]
-    requires { ⌜ Sized (now file) ⌝ }
-    ensures { λ r. ⌜ bit r ≡ decode (now (file .entry)) .next a ⌝ }
-{
-    if !field::is_recorded(file, a) {
-        return row::none();
-    }
-    let b = field::event_byte(file, a, 0);
-    if !field::is_recorded(file, b) {
-        return row::none();
-    }
-    row::with(row::none(), b)
-}
-
-// Which event directly follows which.
-pub fn next(file: &[u8]) -> [[u8; 8]; 64]
-    requires { ⌜ Sized (now file) ⌝ }
-    ensures { λ r. ⌜ edge r ≡ decode (now (file .entry)) .next ⌝ }
-{
-    let mut h = grid::empty();
-    let mut a: usize = 0;
-    while a < 64 {
-        h[a] = next_row(file, a);
-        a += 1;
-    }
-    h
-}
-
 // Program order: every initial write before every recorded event, and earlier to later in a thread.
+// Made from the last event of the line to the first: the row of what follows an event is done before its own.
 pub fn program_order(file: &[u8]) -> [[u8; 8]; 64]
-    requires { ⌜ Sized (now file) ⌝ }
+    requires { ⌜ Sized (now file) × (threadsSound (now file) ≡ true) ⌝ }
     ensures { λ r. ⌜ edge r ≡ base nodes (decode (now (file .entry))) .po ⌝ }
 {
-    let first = grid::product(
+    let line = thread::line(file);
+    let at = line.at;
+    let mut h = grid::product(
         members(file, Members::Initial),
         members(file, Members::Recorded),
     );
-    grid::or(first, grid::closure(next(file)))
+    let mut k = line.len;
+    while 0 < k {
+        k -= 1;
+        let e = at[k] as usize;
+        let b = field::event_byte(file, e, 0);
+        if b != 0 {
+            let later = h[b];
+            h[e] = row::with(later, b);
+        }
+    }
+    h
 }
 
 // The sources of the links of type t into b, where b need be no event.

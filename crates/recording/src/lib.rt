@@ -6,6 +6,7 @@ pub mod field;
 pub mod graph;
 pub mod legal;
 pub mod links;
+pub mod thread;
 
 // The header's numbers: kind, N event records, L locations, M link records.
 pub struct Header {

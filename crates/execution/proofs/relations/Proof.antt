@@ -1,7 +1,7 @@
 -- `relations` meets its contract, place by place. Assumes nothing.
 use native.Mathlib.Omega.{arith}
 use Rattle.models.specs.Graph.{base}
-use Rattle.recording.proofs.Loaded.{loaded-sized, loaded-readable, loaded-legal}
+use Rattle.recording.proofs.Loaded.{loaded-sized, loaded-readable, loaded-legal, loaded-threads}
 use Rattle.execution.proofs.BaseOf.{links-of}
 use borrow.Author.Needs.{needs}
 use Rattle.execution.proofs.relations.Statement.{statement}
@@ -11,7 +11,7 @@ same-location-requires : tie.Need-same-location-requires
 same-location-requires c κs = search (needs, loaded-sized, loaded-legal)
 
 program-order-requires : tie.Need-program-order-requires
-program-order-requires c κs = search (needs, loaded-sized)
+program-order-requires c κs = search (needs, loaded-sized, loaded-threads)
 
 rows-by-type-requires : tie.Need-rows-by-type-requires
 rows-by-type-requires c κs = search (needs, loaded-readable)

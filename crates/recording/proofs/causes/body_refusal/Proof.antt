@@ -1,5 +1,7 @@
 -- `causes::body_refusal` meets its contract: the first cause that applies. Assumes nothing.
 use mathlib.Core.Path.{sym, _∙_}
+use borrow.Author.Tests.{not-false}
+use Rattle.recording.specs.Causes.{badThreads}
 use Rattle.recording.proofs.CauseLaws.{event-cause, link-cause, pair-cause, legal-of, body-5, body-6, body-7, body-8, body-9, body-10, body-0, chained, readable-of}
 use borrow.Author.Needs.{needs}
 use Rattle.recording.proofs.causes.body_refusal.Statement.{statement}
@@ -33,7 +35,10 @@ returns-3 c =
     body-7 f a b (sym (c .before .chains-sound .ensures) ∙ c .if3 .taken)
 
 program-order-requires : tie.Need-program-order-requires
-program-order-requires c κs = search needs
+unfolding badThreads
+program-order-requires c κs =
+    let start = c .before .before .before .before .before .before .before in
+    (start .pre, not-false _ (sym (c .before .before .before .threads-sound .ensures) ∙ c .before .before .if2 .left))
 
 links-sound-requires : tie.Need-links-sound-requires
 links-sound-requires c κs =

@@ -1,42 +1,138 @@
--- `graph::program_order` meets its contract, call by call. Assumes nothing.
+-- `graph::program_order` meets its contract: from the end of the line on, the row of each event. Assumes nothing.
+use mathlib.Core.Path.{_≡_, refl}
+use mathlib.Core.Bool.{true}
+use Prim.Native.Nat.{_-_, _≤_}
+use native.Mathlib.Omega.{arith}
+use lib.ListN.{length}
+use Rattle.recording.specs.Layout.{threads, Sized}
+use Rattle.recording.specs.Chains.{threadsSound, Line}
 use Rattle.recording.specs.Sets.{membersOf}
-use Rattle.recording.proofs.GraphLaws.{po-is}
+use Rattle.recording.proofs.ThreadLaws.{Backward, backward-start, placed, backward-keep, backward-with, backward-all}
 use borrow.Author.Needs.{needs}
 use Rattle.recording.proofs.graph.program_order.Statement.{statement}
 use Rattle.recording.proofs.graph.program_order.Tie as tie
 
-members-requires : tie.Need-members-requires
+abbrev Inv-loop : tie.InvT-loop
+Inv-loop file at h₀ k₀ h k = (k ≤ k₀) × Sized file × (threadsSound file ≡ true) × Line file threads k₀ at × (length at ≡ 64) × Backward file k h
+
+abbrev μ-loop : tie.MeasureT-loop
+μ-loop file at h₀ k₀ h k = k
+
+line-requires : tie.Need-line-requires Inv-loop μ-loop
+line-requires c κs = search needs
+
+members-requires : tie.Need-members-requires Inv-loop μ-loop
 members-requires c κs = search needs
 
-members-requires-2 : tie.Need-members-requires-2
+members-requires-2 : tie.Need-members-requires-2 Inv-loop μ-loop
 members-requires-2 c κs = search needs
 
-product-requires : tie.Need-product-requires
+product-requires : tie.Need-product-requires Inv-loop μ-loop
 product-requires c κs = search needs
 
-next-requires : tie.Need-next-requires
-next-requires c κs = search needs
-
-closure-requires : tie.Need-closure-requires
-closure-requires c κs = search needs
-
-or-requires : tie.Need-or-requires
-or-requires c κs = search needs
-
-returns : tie.Need-returns
+loop-holds : tie.Need-loop-holds Inv-loop μ-loop
 unfolding membersOf
-returns c =
-    po-is _ _ _ _ _ _ _ (c .before .before .before .before .before .members .ensures) (c .before .before .before .before .members2 .ensures)
-    (c .before .before .before .product .ensures) (c .before .before .next .ensures) (c .before .closure .ensures) (c .or .ensures)
+loop-holds c =
+    let pre = c .before .before .before .before .before .before .pre in
+    let line = c .before .before .before .before .line .ensures in
+    let long : length (c .before .before .before .before .line .result .at) ≡ 64 = search needs in
+    (omega arith, pre .0, pre .1, line, long, backward-start _ _ _ line long _ _ _ (search needs) (c .before .before .members .ensures) (c .before .members2 .ensures) (c .product .ensures))
+
+sub-k : tie.Need-sub-k Inv-loop μ-loop
+sub-k c = search needs
+
+array-read-e : tie.Need-array-read-e Inv-loop μ-loop
+array-read-e c = (let inv = c .before .loop .inv in omega (arith, inv .0, inv .3 .bounded, c .loop-test .taken))
+
+cast-e : tie.Need-cast-e Inv-loop μ-loop
+cast-e c = search needs
+
+event-byte-requires : tie.Need-event-byte-requires Inv-loop μ-loop
+event-byte-requires c κs =
+    let inv = c .before .loop .inv in
+    let place = placed _ _ _ (inv .3) (inv .4) (inv .2) (c .before .loop .k - 1) _ _ (omega (arith, inv .0, c .loop-test .taken)) refl refl in
+    (inv .1, place .low, place .high, omega arith)
+
+mul-later : tie.Need-mul-later Inv-loop μ-loop
+mul-later c =
+    let turn = c .before in
+    let inv = turn .before .before .loop .inv in
+    let place = placed _ _ _ (inv .3) (inv .4) (inv .2) (turn .before .before .loop .k - 1) _ _ (omega (arith, inv .0, turn .before .loop-test .taken)) refl (turn .event-byte .ensures .0) in
+    omega (arith, place .small, inv .1 .most-events)
+
+array-copy-out-later : tie.Need-array-copy-out-later Inv-loop μ-loop
+array-copy-out-later c =
+    let turn = c .before in
+    let inv = turn .before .before .loop .inv in
+    let place = placed _ _ _ (inv .3) (inv .4) (inv .2) (turn .before .before .loop .k - 1) _ _ (omega (arith, inv .0, turn .before .loop-test .taken)) refl (turn .event-byte .ensures .0) in
+    omega (arith, place .small, inv .1 .most-events)
+
+with-requires : tie.Need-with-requires Inv-loop μ-loop
+with-requires c κs =
+    let turn = c .before .before in
+    let inv = turn .before .before .loop .inv in
+    let place = placed _ _ _ (inv .3) (inv .4) (inv .2) (turn .before .before .loop .k - 1) _ _ (omega (arith, inv .0, turn .before .loop-test .taken)) refl (turn .event-byte .ensures .0) in
+    omega (arith, place .small, inv .1 .most-events)
+
+mul-h : tie.Need-mul-h Inv-loop μ-loop
+mul-h c =
+    let turn = c .before .before .before in
+    let inv = turn .before .before .loop .inv in
+    let place = placed _ _ _ (inv .3) (inv .4) (inv .2) (turn .before .before .loop .k - 1) _ _ (omega (arith, inv .0, turn .before .loop-test .taken)) refl (turn .event-byte .ensures .0) in
+    omega (arith, place .high, inv .1 .most-events)
+
+array-set-from-h : tie.Need-array-set-from-h Inv-loop μ-loop
+array-set-from-h c =
+    let turn = c .before .before .before in
+    let inv = turn .before .before .loop .inv in
+    let place = placed _ _ _ (inv .3) (inv .4) (inv .2) (turn .before .before .loop .k - 1) _ _ (omega (arith, inv .0, turn .before .loop-test .taken)) refl (turn .event-byte .ensures .0) in
+    omega (arith, place .high, inv .1 .most-events)
+
+loop-less : tie.Need-loop-less Inv-loop μ-loop
+loop-less c = search needs
+
+loop-again : tie.Need-loop-again Inv-loop μ-loop
+loop-again c =
+    let turn = c .before .before .before in
+    let inv = turn .before .before .loop .inv in
+    let place = placed _ _ _ (inv .3) (inv .4) (inv .2) (turn .before .before .loop .k - 1) _ _ (omega (arith, inv .0, turn .before .loop-test .taken)) refl (turn .event-byte .ensures .0) in
+    (omega (arith, inv .0), inv .1, inv .2, inv .3, inv .4, backward-with _ _ _ _ _ _ place (inv .5) (omega (arith, turn .before .loop-test .taken)) (inv .1) (c .before .before .if1 .taken) _ (c .with .ensures))
+
+loop-less-2 : tie.Need-loop-less-2 Inv-loop μ-loop
+loop-less-2 c = search needs
+
+loop-again-2 : tie.Need-loop-again-2 Inv-loop μ-loop
+loop-again-2 c =
+    let turn = c .before in
+    let inv = turn .before .before .loop .inv in
+    let place = placed _ _ _ (inv .3) (inv .4) (inv .2) (turn .before .before .loop .k - 1) _ _ (omega (arith, inv .0, turn .before .loop-test .taken)) refl (turn .event-byte .ensures .0) in
+    (omega (arith, inv .0), inv .1, inv .2, inv .3, inv .4, backward-keep _ _ _ _ _ _ place (inv .5) (omega (arith, turn .before .loop-test .taken)) (c .if1 .left))
+
+returns : tie.Need-returns Inv-loop μ-loop
+returns c = (let inv = c .before .loop .inv in backward-all _ (inv .2) _ _ (c .loop-test .left) (inv .5))
 
 pub program-order-spec : {M : Type 1} → statement M
 program-order-spec =
     tie.close
     (tie.spec
+    Inv-loop
+    μ-loop
+    line-requires
     members-requires
     members-requires-2
     product-requires
-    next-requires
-    closure-requires
-    or-requires
+    loop-holds
+    sub-k
+    array-read-e
+    cast-e
+    event-byte-requires
+    mul-later
+    array-copy-out-later
+    with-requires
+    mul-h
+    array-set-from-h
+    loop-less
+    loop-again
+    loop-less-2
+    loop-again-2
     returns)
