@@ -24,27 +24,6 @@ ghost use Rattle.recording.specs.Decode.{decode};
 ghost use Rattle.recording.specs.Causes.{allOf, within, readable, Readable, oneSource, linksSoundAt, pairedAt, eventLegal, Chained, headerOver, headerCauses, bodyCauses, badThreads, badChains, coRing};
 ghost use Rattle.recording.specs.Load.{headerOf, loadOf, numberOf, causeFor};
 
-// Whether b has at most one rf source.
-pub fn one_source(file: &[u8], b: usize) -> bool
-    requires { ⌜ Sized (now file) × (1 ≤ b) × (b ≤ events (now file)) × (allOf (linksInto (now file) b) (readable (now file)) ≡ true) ⌝ }
-    ensures { λ r. ⌜ r ≡ oneSource (decode (now (file .entry))) b ⌝ }
-{
-    let s = links::sources(file, b, 1);
-    let x = row::first(s);
-    if 64 <= x {
-        return true;
-    }
-    row::first(row::without(s, x)) == 64
-}
-
-// Whether the links into b are sound, and b has one rf source, where po is program order.
-pub fn sound_at(file: &[u8], po: [[u8; 8]; 64], b: usize) -> bool
-    requires { ⌜ Chained (now file) × (edge po ≡ base nodes (decode (now file)) .po) × (1 ≤ b) × (b ≤ events (now file)) ⌝ }
-    ensures { λ r. ⌜ r ≡ linksSoundAt (now (file .entry)) b ⌝ }
-{
-    links::sound_into(file, po, b) && one_source(file, b)
-}
-
 // Whether all links are sound.
 pub fn links_sound(file: &[u8], po: [[u8; 8]; 64]) -> bool
     requires { ⌜ Chained (now file) × (edge po ≡ base nodes (decode (now file)) .po) ⌝ }
@@ -54,7 +33,7 @@ pub fn links_sound(file: &[u8], po: [[u8; 8]; 64]) -> bool
     let mut b: usize = 0;
     while b < n {
         b += 1;
-        if !sound_at(file, po, b) {
+        if !links::sound_into(file, po, b) {
             return false;
         }
     }

@@ -1,16 +1,14 @@
 // What a record may say: the table of classes, modes and flags, and the conditions of the links.
 
 use crate::field;
-use relation::grid;
 ghost use mathlib.Core.Path.{_≡_};
 ghost use mathlib.Core.Bool.{not, _&&_, _||_};
 ghost use Prim.Native.Nat.{_≤_, _<_};
 ghost use lib.Dec.{eqb, leb};
-ghost use Rattle.relation.specs.Bits.{edge};
 ghost use Rattle.relation.specs.Rel.{nodes};
 ghost use Rattle.models.specs.Graph.{base};
 ghost use Rattle.models.specs.Recording.{ofClass, flagged};
-ghost use Rattle.recording.specs.Layout.{kind, events, links, isSource, Sized};
+ghost use Rattle.recording.specs.Layout.{kind, events, links, linkByte, isSource, Sized};
 ghost use Rattle.recording.specs.Chains.{each};
 ghost use Rattle.recording.specs.Decode.{decode};
 ghost use Rattle.recording.specs.Causes.{readLegal, writeLegal, fenceMode, fenceLegal, legal, eventLegal, sameLocations, rfLegal, coLegal, rmwLegal, fromRead, dataLegal, addrLegal, casdepLegal, linkLegal, linkSound};
@@ -231,28 +229,28 @@ pub fn rmw_legal(file: &[u8], a: usize, b: usize) -> bool
     exclusive_to_write(file, a, b) && next_same(file, a, b)
 }
 
-// Types 4 to 7: from a read to an event po-later, where po is program order.
-pub fn from_read(file: &[u8], po: [[u8; 8]; 64], a: usize, b: usize) -> bool
-    requires { ⌜ Sized (now file) × (edge po ≡ base nodes (decode (now file)) .po) × (b < 64) ⌝ }
+// Types 4 to 7: from a read to an event po-later. Here and below `later` says whether b is po-later than a.
+pub fn from_read(file: &[u8], later: bool, a: usize, b: usize) -> bool
+    requires { ⌜ Sized (now file) × (a < 64 → later ≡ base nodes (decode (now file)) .po a b) ⌝ }
     ensures { λ r. ⌜ r ≡ fromRead (decode (now (file .entry))) a b ⌝ }
 {
-    field::of_class(file, a, 1) && grid::has(po, a, b)
+    field::of_class(file, a, 1) && later
 }
 
 // 4 data: read to po-later write.
-pub fn data_legal(file: &[u8], po: [[u8; 8]; 64], a: usize, b: usize) -> bool
-    requires { ⌜ Sized (now file) × (edge po ≡ base nodes (decode (now file)) .po) × (b < 64) ⌝ }
+pub fn data_legal(file: &[u8], later: bool, a: usize, b: usize) -> bool
+    requires { ⌜ Sized (now file) × (a < 64 → later ≡ base nodes (decode (now file)) .po a b) ⌝ }
     ensures { λ r. ⌜ r ≡ dataLegal (decode (now (file .entry))) a b ⌝ }
 {
-    from_read(file, po, a, b) && field::of_class(file, b, 2)
+    from_read(file, later, a, b) && field::of_class(file, b, 2)
 }
 
 // 5 addr: read to po-later read or write.
-pub fn addr_legal(file: &[u8], po: [[u8; 8]; 64], a: usize, b: usize) -> bool
-    requires { ⌜ Sized (now file) × (edge po ≡ base nodes (decode (now file)) .po) × (b < 64) ⌝ }
+pub fn addr_legal(file: &[u8], later: bool, a: usize, b: usize) -> bool
+    requires { ⌜ Sized (now file) × (a < 64 → later ≡ base nodes (decode (now file)) .po a b) ⌝ }
     ensures { λ r. ⌜ r ≡ addrLegal (decode (now (file .entry))) a b ⌝ }
 {
-    from_read(file, po, a, b) && field::is_access(file, b)
+    from_read(file, later, a, b) && field::is_access(file, b)
 }
 
 // Whether b is an exclusive read of a source recording.
@@ -264,16 +262,16 @@ pub fn source_exclusive(file: &[u8], b: usize) -> bool
 }
 
 // 7 casdep: read to po-later exclusive read; kind 1 only.
-pub fn casdep_legal(file: &[u8], po: [[u8; 8]; 64], a: usize, b: usize) -> bool
-    requires { ⌜ Sized (now file) × (edge po ≡ base nodes (decode (now file)) .po) × (b < 64) ⌝ }
+pub fn casdep_legal(file: &[u8], later: bool, a: usize, b: usize) -> bool
+    requires { ⌜ Sized (now file) × (a < 64 → later ≡ base nodes (decode (now file)) .po a b) ⌝ }
     ensures { λ r. ⌜ r ≡ casdepLegal (decode (now (file .entry))) (kind (now (file .entry))) a b ⌝ }
 {
-    from_read(file, po, a, b) && source_exclusive(file, b)
+    from_read(file, later, a, b) && source_exclusive(file, b)
 }
 
 // Whether a link of type t may lead from a to b.
-pub fn link_legal(file: &[u8], po: [[u8; 8]; 64], t: usize, a: usize, b: usize) -> bool
-    requires { ⌜ Sized (now file) × (edge po ≡ base nodes (decode (now file)) .po) × (b < 64) ⌝ }
+pub fn link_legal(file: &[u8], later: bool, t: usize, a: usize, b: usize) -> bool
+    requires { ⌜ Sized (now file) × (a < 64 → later ≡ base nodes (decode (now file)) .po a b) ⌝ }
     ensures { λ r. ⌜ r ≡ linkLegal (decode (now (file .entry))) (kind (now (file .entry))) t a b ⌝ }
 {
     if t == 1 {
@@ -286,26 +284,26 @@ pub fn link_legal(file: &[u8], po: [[u8; 8]; 64], t: usize, a: usize, b: usize) 
         return rmw_legal(file, a, b);
     }
     if t == 4 {
-        return data_legal(file, po, a, b);
+        return data_legal(file, later, a, b);
     }
     if t == 5 {
-        return addr_legal(file, po, a, b);
+        return addr_legal(file, later, a, b);
     }
     if t == 6 {
-        return from_read(file, po, a, b);
+        return from_read(file, later, a, b);
     }
     if t == 7 {
-        return casdep_legal(file, po, a, b);
+        return casdep_legal(file, later, a, b);
     }
     false
 }
 
-// Whether the link record m into b is sound.
-pub fn link_sound(file: &[u8], po: [[u8; 8]; 64], m: usize, b: usize) -> bool
-    requires { ⌜ Sized (now file) × (edge po ≡ base nodes (decode (now file)) .po) × (b < 64) × (1 ≤ m) × (m ≤ links (now file)) ⌝ }
+// Whether the link record m into b is sound, where `later` says whether b is po-later than its source.
+pub fn link_sound(file: &[u8], later: bool, m: usize, b: usize) -> bool
+    requires { ⌜ Sized (now file) × (1 ≤ m) × (m ≤ links (now file)) × (linkByte (now file) m 2 < 64 → later ≡ base nodes (decode (now file)) .po (linkByte (now file) m 2) b) ⌝ }
     ensures { λ r. ⌜ r ≡ linkSound (now (file .entry)) b m ⌝ }
 {
     let t = field::link_byte(file, m, 1);
     let a = field::link_byte(file, m, 2);
-    link_legal(file, po, t, a, b) && field::link_byte(file, m, 3) == 0
+    link_legal(file, later, t, a, b) && field::link_byte(file, m, 3) == 0
 }

@@ -6,37 +6,56 @@ use crate::legal;
 use relation::row;
 ghost use mathlib.Core.Path.{_≡_};
 ghost use mathlib.Core.Bool.{true};
-ghost use Prim.Native.Nat.{_≤_, _<_};
+ghost use Prim.Native.Nat.{ℕ, _≤_, _<_};
 ghost use Rattle.relation.specs.Bits.{bit, edge};
 ghost use Rattle.relation.specs.Rel.{nodes, inverse};
+ghost use Rattle.models.specs.Recording.{Recording};
 ghost use Rattle.models.specs.Graph.{base};
 ghost use Rattle.recording.specs.Layout.{events, Sized};
 ghost use Rattle.recording.specs.Chains.{each, linksInto};
 ghost use Rattle.recording.specs.Decode.{decode};
-ghost use Rattle.recording.specs.Causes.{allOf, linkSound, oneSource, linksSoundAt, within, readable, Readable};
+ghost use Rattle.recording.specs.Causes.{allOf, oneSource, linksSoundAt, readable, Chained, Readable};
 ghost use Rattle.recording.specs.Sets.{SourcesInto};
 
-// Whether every link into b is sound, where po is program order.
+// Whether a row holds one event at most.
+pub fn at_most_one(row: [u8; 8]) -> bool
+    ensures { λ x. ⌜ ((r : Recording ℕ) (b : ℕ) → bit row ≡ inverse (r .link 1) b → x ≡ oneSource r b) ⌝ }
+{
+    let a = row::first(row);
+    if 64 <= a {
+        return true;
+    }
+    row::first(row::without(row, a)) == 64
+}
+
+// Whether the links into b are sound, and b has one rf source, where po is program order.
 pub fn sound_into(file: &[u8], po: [[u8; 8]; 64], b: usize) -> bool
-    requires { ⌜ Sized (now file) × (edge po ≡ base nodes (decode (now file)) .po) × (1 ≤ b) × (b ≤ events (now file)) × (allOf (linksInto (now file) b) (within (now file)) ≡ true) ⌝ }
-    ensures { λ r. ⌜ r ≡ allOf (linksInto (now (file .entry)) b) (linkSound (now (file .entry)) b) ⌝ }
+    requires { ⌜ Chained (now file) × (edge po ≡ base nodes (decode (now file)) .po) × (1 ≤ b) × (b ≤ events (now file)) ⌝ }
+    ensures { λ r. ⌜ r ≡ linksSoundAt (now (file .entry)) b ⌝ }
 {
     let from = 8 + 8 * field::events(file);
+    let mut rf = row::none();
     let mut n = field::links(file) + 1;
     let mut cursor = Cursor::start(file, 15, 8, b - 1);
     while 0 < n {
         let m = cursor.at;
         if m == 0 {
-            return true;
+            return at_most_one(rf);
         }
-        if !legal::link_sound(file, po, m, b) {
+        let a = field::link_byte(file, m, 2);
+        let after = po[a & 63];
+        if !legal::link_sound(file, row::has(after, b), m, b) {
             return false;
+        }
+        let more = row::with(rf, a);
+        if field::link_byte(file, m, 1) == 1 {
+            rf = more;
         }
         let next = cursor.moved(file, from, 4);
         cursor = next;
         n -= 1;
     }
-    true
+    at_most_one(rf)
 }
 
 // The sources of the links of type t into b.

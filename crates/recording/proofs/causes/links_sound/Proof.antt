@@ -32,11 +32,11 @@ loop-holds c = (search needs, c .events .ensures .0, c .before .before .pre .0, 
 add-b : tie.Need-add-b Inv-loop μ-loop
 add-b c = search needs
 
-sound-at-requires : tie.Need-sound-at-requires Inv-loop μ-loop
-sound-at-requires c κs = let inv = c .before .loop .inv in (inv .2, inv .3, omega arith, omega arith)
+sound-into-requires : tie.Need-sound-into-requires Inv-loop μ-loop
+sound-into-requires c κs = let inv = c .before .loop .inv in (inv .2, inv .3, omega arith, omega arith)
 
 returns : tie.Need-returns Inv-loop μ-loop
-returns c = sym (each-fails _ _ _ (omega arith) (sym (c .before .sound-at .ensures) ∙ not-true _ (c .if1 .taken)))
+returns c = sym (each-fails _ _ _ (omega arith) (sym (c .before .sound-into .ensures) ∙ not-true _ (c .if1 .taken)))
 
 loop-less : tie.Need-loop-less Inv-loop μ-loop
 loop-less c = search needs
@@ -44,7 +44,7 @@ loop-less c = search needs
 loop-again : tie.Need-loop-again Inv-loop μ-loop
 loop-again c =
     let inv = c .before .before .before .loop .inv in
-    (omega arith, inv .1, inv .2, inv .3, each-more _ _ (inv .4) (sym (c .before .sound-at .ensures) ∙ not-false _ (c .if1 .left)))
+    (omega arith, inv .1, inv .2, inv .3, each-more _ _ (inv .4) (sym (c .before .sound-into .ensures) ∙ not-false _ (c .if1 .left)))
 
 returns-2 : tie.Need-returns-2 Inv-loop μ-loop
 returns-2 c =
@@ -60,7 +60,7 @@ links-sound-spec =
     events-requires
     loop-holds
     add-b
-    sound-at-requires
+    sound-into-requires
     returns
     loop-less
     loop-again

@@ -1,5 +1,9 @@
 -- `legal::link_sound` meets its contract. Assumes nothing.
-use mathlib.Core.Path.{_∙_}
+use mathlib.Core.Path.{ap, sym, subst, _∙_}
+use Prim.Native.Nat.{ℕ, _<_}
+use Rattle.relation.specs.Rel.{nodes}
+use Rattle.models.specs.Graph.{base}
+use Rattle.recording.specs.Decode.{decode}
 use Rattle.recording.specs.Causes.{linkSound}
 use Rattle.recording.proofs.FieldLaws.{and-yes, and-no, is-number}
 use Rattle.recording.proofs.LegalLaws.{link-read}
@@ -14,7 +18,10 @@ link-byte-requires-2 : tie.Need-link-byte-requires-2
 link-byte-requires-2 c κs = search needs
 
 link-legal-requires : tie.Need-link-legal-requires
-link-legal-requires c κs = search needs
+link-legal-requires c κs =
+    let pre = c .before .before .before .pre in
+    let a = c .link-byte2 .ensures .0 in
+    (pre .0, λ h. pre .3 (subst (λ (x : ℕ). x < 64) a h) ∙ ap (λ (x : ℕ). base nodes (decode (c .before .before .before .args .file .now)) .po x (c .before .before .before .args .b)) (sym a))
 
 link-byte-requires-3 : tie.Need-link-byte-requires-3
 link-byte-requires-3 c κs = search needs

@@ -1,29 +1,36 @@
--- `links::sound_into` meets its contract: what is left of the chain decides what all of it does. Assumes nothing.
-use mathlib.Core.Path.{_≡_, sym, ap, _∙_}
+-- `links::sound_into` meets its contract: what is left of the chain decides what all of it does, and the rf sources taken and left are all.
+-- Assumes nothing.
+use mathlib.Core.Path.{_≡_, refl, sym, ap, _∙_}
+use mathlib.Core.Logic.{inl, inr}
 use Prim.Native.Nat.{ℕ, _+_, _-_, _*_, _≤_, _<_}
 use native.Mathlib.Omega.{arith}
 use borrow.Author.Tests.{not-true, not-false}
-use Rattle.relation.specs.Bits.{edge}
+use lib.Bits.{mask-lt}
+use Rattle.relation.specs.Bits.{bit, edge}
 use Rattle.relation.specs.Rel.{nodes}
 use Rattle.models.specs.Graph.{base}
-use Rattle.recording.specs.Layout.{events, Sized}
+use Rattle.recording.specs.Layout.{events}
 use Rattle.recording.specs.Chains.{follow}
 use Rattle.recording.specs.Decode.{decode}
-use Rattle.recording.specs.Causes.{linkSound, within}
+use Rattle.recording.specs.Causes.{linkSound, linksSoundAt, within, Chained}
+use Rattle.recording.proofs.FieldLaws.{and-yes, and-no}
 use Rattle.recording.proofs.ChainLaws.{follow-end, follow-none}
-use Rattle.recording.proofs.LinkLaws.{Along, within-le, moved-link, along-start, along-done, along-head, along-fails, along-on}
+use Rattle.recording.proofs.CauseLaws.{sound-readable}
+use Rattle.recording.proofs.LinkLaws.{Along, Taken, within-le, readable-lt, row-of-source, moved-link, along-start, along-done, along-head, along-fails, along-on, taken-start, taken-with, taken-keep, taken-done}
 use borrow.Author.Needs.{needs}
 use Rattle.recording.proofs.links.sound_into.Statement.{statement}
 use Rattle.recording.proofs.links.sound_into.Tie as tie
 
 abbrev Inv-loop : tie.InvT-loop
-Inv-loop file po b from n₀ cursor₀ n cursor = Sized file × (edge po ≡ base nodes (decode file) .po) × (b < 64) × (from ≡ 8 + 8 * events file) × Along file (within file) (linkSound file b) b n (cursor .at)
+Inv-loop file b po from rf₀ n₀ cursor₀ rf n cursor =
+    Chained file × (edge po ≡ base nodes (decode file) .po) × (1 ≤ b) × (b ≤ events file) × (from ≡ 8 + 8 * events file)
+    × Along file (within file) (linkSound file b) b n (cursor .at) × Taken file 1 b n (cursor .at) (bit rf)
 
 abbrev μ-loop : tie.MeasureT-loop
-μ-loop file po b from n₀ cursor₀ n cursor = n
+μ-loop file b po from rf₀ n₀ cursor₀ rf n cursor = n
 
 events-requires : tie.Need-events-requires Inv-loop μ-loop
-events-requires c κs = search needs
+events-requires c κs = c .before .pre .0 .sized
 
 mul-from : tie.Need-mul-from Inv-loop μ-loop
 mul-from c = search needs
@@ -31,8 +38,11 @@ mul-from c = search needs
 add-from : tie.Need-add-from Inv-loop μ-loop
 add-from c = search needs
 
+none-requires : tie.Need-none-requires Inv-loop μ-loop
+none-requires c κs = search needs
+
 links-requires : tie.Need-links-requires Inv-loop μ-loop
-links-requires c κs = search needs
+links-requires c κs = c .before .before .before .pre .0 .sized
 
 add-n : tie.Need-add-n Inv-loop μ-loop
 add-n c = search needs
@@ -41,46 +51,91 @@ sub-start : tie.Need-sub-start Inv-loop μ-loop
 sub-start c = search needs
 
 start-requires : tie.Need-start-requires Inv-loop μ-loop
-start-requires c κs = omega (arith, c .before .before .before .pre .0 .long)
+start-requires c κs = let pre = c .before .before .before .before .pre in omega (arith, pre .0 .sized .long, pre .2, pre .3)
 
 loop-holds : tie.Need-loop-holds Inv-loop μ-loop
 loop-holds c =
-    let start = c .before .before .before .before in
-    let made = c .before .before in (
-      start .pre .0,
-      start .pre .1,
-      omega (arith, start .pre .0 .most-events),
-      ap (λ (k : ℕ). 8 + 8 * k) (made .events .ensures .0),
-      along-start _ _ _ _ _ _ (c .before .links .ensures .0) (c .start .ensures .0) (start .pre .4),
+    let start = c .before .before .before .before .before in
+    let pre = start .pre in (
+      pre .0,
+      pre .1,
+      pre .2,
+      pre .3,
+      ap (λ (k : ℕ). 8 + 8 * k) (c .before .before .before .events .ensures .0),
+      along-start _ _ _ _ _ _ (c .before .links .ensures .0) (c .start .ensures .0) (pre .0 .chains _ (pre .2) (pre .3)),
+      taken-start _ _ _ _ _ _ (c .before .before .none .ensures) (c .before .links .ensures .0) (c .start .ensures .0),
     )
 
+at-most-one-requires : tie.Need-at-most-one-requires Inv-loop μ-loop
+at-most-one-requires c κs = search needs
+
 returns : tie.Need-returns Inv-loop μ-loop
+unfolding linksSoundAt
 returns c =
-    let inv = c .before .before .loop .inv in
-    along-done _ _ _ _ _ _ (inv .4) (ap (follow _ _ _) (c .if1 .taken) ∙ follow-end _ _ _)
+    let inv = c .before .before .before .loop .inv in
+    let done = ap (follow _ _ _) (c .before .if1 .taken) ∙ follow-end _ _ _ in
+    and-yes _ _ _ _ (along-done _ _ _ _ _ _ (inv .5) done) refl (c .at-most-one .ensures _ _ (taken-done _ _ _ _ _ _ (inv .2) (inv .3) (inv .6) done))
+
+link-byte-requires : tie.Need-link-byte-requires Inv-loop μ-loop
+link-byte-requires c κs =
+    let at-loop = c .before .before in
+    let inv = at-loop .loop .inv in
+    (inv .0 .sized, omega (arith, c .if1 .left), within-le _ _ (along-head _ _ _ _ _ (at-loop .loop .n - 1) _ (omega arith) (c .if1 .left) (inv .5)), search needs)
+
+mul-after : tie.Need-mul-after Inv-loop μ-loop
+mul-after c = record { fits = omega (arith, mask-lt (c .link-byte .result) 6) }
+
+array-copy-out-after : tie.Need-array-copy-out-after Inv-loop μ-loop
+array-copy-out-after c = mask-lt (c .link-byte .result) 6
+
+has-requires : tie.Need-has-requires Inv-loop μ-loop
+has-requires c κs = let inv = c .before .before .before .before .loop .inv in omega (arith, inv .0 .sized .most-events, inv .3)
 
 link-sound-requires : tie.Need-link-sound-requires Inv-loop μ-loop
 link-sound-requires c κs =
-    let at-loop = c .before .before in
+    let at-loop = c .before .before .before .before .before in
     let inv = at-loop .loop .inv in
-    (inv .0, inv .1, inv .2, omega (arith, c .if1 .left), within-le _ _ (along-head _ _ _ _ _ (at-loop .loop .n - 1) _ (omega arith) (c .if1 .left) (inv .4)))
+    let some-link = c .before .before .before .if1 .left in (
+      inv .0 .sized,
+      omega (arith, some-link),
+      within-le _ _ (along-head _ _ _ _ _ (at-loop .loop .n - 1) _ (omega arith) some-link (inv .5)),
+      λ h. c .has .ensures ∙ row-of-source _ _ _ _ _ (inv .1) (c .before .before .link-byte .ensures .0) h,
+    )
 
 returns-2 : tie.Need-returns-2 Inv-loop μ-loop
+unfolding linksSoundAt
 returns-2 c =
-    let at-loop = c .before .before .before .before in
+    let at-loop = c .before .before .before .before .before .before .before in
     let inv = at-loop .loop .inv in
-    let some-link = c .before .before .if1 .left in
-    along-fails _ _ _ _ _ (at-loop .loop .n - 1) _ (omega arith) some-link
-    (within-le _ _ (along-head _ _ _ _ _ (at-loop .loop .n - 1) _ (omega arith) some-link (inv .4))) (inv .4)
-    (sym (c .before .link-sound .ensures) ∙ not-true _ (c .if2 .taken))
+    let some-link = c .before .before .before .before .before .if1 .left in
+    and-no _ _ _
+    (along-fails _ _ _ _ _ (at-loop .loop .n - 1) _ (omega arith) some-link
+    (within-le _ _ (along-head _ _ _ _ _ (at-loop .loop .n - 1) _ (omega arith) some-link (inv .5))) (inv .5)
+    (sym (c .before .link-sound .ensures) ∙ not-true _ (c .if2 .taken))) refl
+
+with-requires : tie.Need-with-requires Inv-loop μ-loop
+with-requires c κs =
+    let at-loop = c .before .before .before .before .before .before .before in
+    let inv = at-loop .loop .inv in
+    let some-link = c .before .before .before .before .before .if1 .left in
+    let one = along-head _ _ _ _ _ (at-loop .loop .n - 1) _ (omega arith) some-link (inv .5) in
+    let sound = sound-readable _ _ _ (inv .0 .sized) one (sym (c .before .link-sound .ensures) ∙ not-false _ (c .if2 .left)) in
+    omega (arith, readable-lt _ _ sound, c .before .before .before .before .link-byte .ensures .0)
+
+link-byte-requires-2 : tie.Need-link-byte-requires-2 Inv-loop μ-loop
+link-byte-requires-2 c κs =
+    let at-loop = c .before .before .before .before .before .before .before .before in
+    let inv = at-loop .loop .inv in
+    let some-link = c .before .before .before .before .before .before .if1 .left in
+    (inv .0 .sized, omega (arith, some-link), within-le _ _ (along-head _ _ _ _ _ (at-loop .loop .n - 1) _ (omega arith) some-link (inv .5)), search needs)
 
 moved-requires : tie.Need-moved-requires Inv-loop μ-loop
 moved-requires c κs =
-    let at-loop = c .before .before .before .before in
+    let at-loop = c .before .before .before .before .before .before .before .before .before .before in
     let inv = at-loop .loop .inv in
-    let some-link = c .before .before .if1 .left in
-    let inside = within-le _ _ (along-head _ _ _ _ _ (at-loop .loop .n - 1) _ (omega arith) some-link (inv .4)) in
-    (omega (arith, some-link), omega (arith, inside, inv .0 .long, inv .3, some-link))
+    let some-link = c .before .before .before .before .before .before .before .before .if1 .left in
+    let inside = within-le _ _ (along-head _ _ _ _ _ (at-loop .loop .n - 1) _ (omega arith) some-link (inv .5)) in
+    (omega (arith, some-link), omega (arith, inside, inv .0 .sized .long, inv .4, some-link))
 
 sub-n : tie.Need-sub-n Inv-loop μ-loop
 sub-n c = search needs
@@ -90,22 +145,46 @@ loop-less c = search needs
 
 loop-again : tie.Need-loop-again Inv-loop μ-loop
 loop-again c =
-    let at-loop = c .before .before .before .before .before in
+    let at-loop = c .before .before .before .before .before .before .before .before .before .before .before in
     let inv = at-loop .loop .inv in
-    let some-link = c .before .before .before .if1 .left in
-    let inside = within-le _ _ (along-head _ _ _ _ _ (at-loop .loop .n - 1) _ (omega arith) some-link (inv .4)) in (
-      inv .0,
-      inv .1,
-      inv .2,
-      inv .3,
-      along-on _ _ _ _ _ _ _ _ (omega arith) some-link inside (inv .4) (sym (c .before .before .link-sound .ensures) ∙ not-false _ (c .before .if2 .left))
-          (moved-link _ _ _ _ (inv .3) (c .moved .ensures .0)),
-    )
+    let some-link = c .before .before .before .before .before .before .before .before .before .if1 .left in
+    let going = c .before .before .before .before .before .before .before .before .before .before .loop-test .taken in
+    let inside = within-le _ _ (along-head _ _ _ _ _ (at-loop .loop .n - 1) _ (omega (arith, going)) some-link (inv .5)) in
+    let next = moved-link _ _ _ _ (inv .4) (c .moved .ensures .0) in
+    let on = along-on _ _ _ _ _ (at-loop .loop .n - 1) _ _ (omega (arith, going)) some-link inside (inv .5)
+    (sym (c .before .before .before .before .before .link-sound .ensures) ∙ not-false _ (c .before .before .before .before .if2 .left)) next in
+    let type-read = c .before .before .link-byte2 .ensures .0 in
+    elim (c .before .if3 .came) [
+      | inl w ↦ rw (w .1) (
+        inv .0,
+        inv .1,
+        inv .2,
+        inv .3,
+        inv .4,
+        on,
+        taken-with _ _ _ _ _ _ _ _ _ _ _ (omega (arith, going)) some-link inside (inv .6) next type-read (w .0 .taken) (c .before .before .before .before .before .before .before .before .link-byte .ensures .0)
+            (c .before .before .before .with .ensures),
+      )
+      | inr w ↦ rw (w .1) (
+        inv .0,
+        inv .1,
+        inv .2,
+        inv .3,
+        inv .4,
+        on,
+        taken-keep _ _ _ _ _ _ _ _ _ (omega (arith, going)) some-link inside (inv .6) next type-read (w .0 .left),
+      )
+    ]
+
+at-most-one-requires-2 : tie.Need-at-most-one-requires-2 Inv-loop μ-loop
+at-most-one-requires-2 c κs = search needs
 
 returns-3 : tie.Need-returns-3 Inv-loop μ-loop
+unfolding linksSoundAt
 returns-3 c =
-    let inv = c .before .loop .inv in
-    along-done _ _ _ _ _ _ (inv .4) (follow-none _ _ _ _ (c .loop-test .left))
+    let inv = c .before .before .loop .inv in
+    let done = follow-none _ _ _ _ (c .before .loop-test .left) in
+    and-yes _ _ _ _ (along-done _ _ _ _ _ _ (inv .5) done) refl (c .at-most-one2 .ensures _ _ (taken-done _ _ _ _ _ _ (inv .2) (inv .3) (inv .6) done))
 
 pub sound-into-spec : {M : Type 1} → statement M
 sound-into-spec =
@@ -116,16 +195,25 @@ sound-into-spec =
     events-requires
     mul-from
     add-from
+    none-requires
     links-requires
     add-n
     sub-start
     start-requires
     loop-holds
+    at-most-one-requires
     returns
+    link-byte-requires
+    mul-after
+    array-copy-out-after
+    has-requires
     link-sound-requires
     returns-2
+    with-requires
+    link-byte-requires-2
     moved-requires
     sub-n
     loop-less
     loop-again
+    at-most-one-requires-2
     returns-3)

@@ -1,0 +1,30 @@
+-- `links::at_most_one` meets its contract: no member is left without the least. Assumes nothing.
+use mathlib.Core.Path.{ap, _∙_}
+use Prim.Native.Nat.{ℕ}
+use native.Mathlib.Omega.{arith}
+use lib.Dec.{eqb}
+use Rattle.recording.proofs.CauseLaws.{alone, alone-with}
+use borrow.Author.Needs.{needs}
+use Rattle.recording.proofs.links.at_most_one.Statement.{statement}
+use Rattle.recording.proofs.links.at_most_one.Tie as tie
+
+first-requires : tie.Need-first-requires
+first-requires c κs = search needs
+
+returns : tie.Need-returns
+returns c r b e = alone r b _ e (omega (arith, c .before .first .ensures, c .if1 .taken))
+
+without-requires : tie.Need-without-requires
+without-requires c κs = search needs
+
+first-requires-2 : tie.Need-first-requires-2
+first-requires-2 c κs = search needs
+
+returns-2 : tie.Need-returns-2
+returns-2 c r b e =
+    ap (λ (y : ℕ). eqb y 64) (c .first2 .ensures)
+    ∙ alone-with r b _ _ _ e (c .before .before .before .first .ensures) (c .before .before .if1 .left) (c .before .without .ensures)
+
+pub at-most-one-spec : {M : Type 1} → statement M
+at-most-one-spec =
+    tie.close (tie.spec first-requires returns without-requires first-requires-2 returns-2)
