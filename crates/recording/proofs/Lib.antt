@@ -8,6 +8,7 @@ pub mod CauseLaws
 pub mod Truth
 pub mod ChainFacts
 pub mod ThreadLaws
+pub mod CoherenceLaws
 pub mod Accepted
 pub mod Loaded
 pub mod Longest

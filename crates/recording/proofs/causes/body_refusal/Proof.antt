@@ -2,7 +2,7 @@
 use mathlib.Core.Path.{sym, _∙_}
 use borrow.Author.Tests.{not-false}
 use Rattle.recording.specs.Causes.{badThreads}
-use Rattle.recording.proofs.CauseLaws.{event-cause, link-cause, pair-cause, legal-of, body-5, body-6, body-7, body-8, body-9, body-10, body-0, chained, readable-of}
+use Rattle.recording.proofs.CauseLaws.{event-cause, link-cause, pair-cause, body-5, body-6, body-7, body-8, body-9, body-10, body-0, chained, readable-of}
 use borrow.Author.Needs.{needs}
 use Rattle.recording.proofs.causes.body_refusal.Statement.{statement}
 use Rattle.recording.proofs.causes.body_refusal.Tie as tie
@@ -63,7 +63,7 @@ co-ring-requires c κs =
     let b = sym (c .before .before .before .before .before .before .threads-sound .ensures) ∙ c .before .before .before .before .before .if2 .left in
     let d = sym (c .before .before .before .before .chains-sound .ensures) ∙ c .before .before .before .if3 .left in
     let e = link-cause f _ _ (c .before .links-sound .ensures) (c .if4 .left) in
-    (readable-of f (chained f (c .before .before .before .before .before .before .before .before .before .before .pre) d) e, legal-of f a)
+    readable-of f (chained f (c .before .before .before .before .before .before .before .before .before .before .pre) d) e
 
 returns-5 : tie.Need-returns-5
 returns-5 c =

@@ -2,21 +2,18 @@
 use mathlib.Core.Path.{ap, _∙_}
 use Prim.Native.Nat.{ℕ}
 use lib.Dec.{ltb}
-use Rattle.relation.specs.Rel.{Set, Rel, least, diagonal}
-use Rattle.recording.specs.Causes.{coRing}
+use Rattle.relation.specs.Rel.{least, diagonal}
 use Rattle.recording.proofs.CauseLaws.{some-least}
+use Rattle.recording.proofs.CoherenceLaws.{co-ring-is}
 use borrow.Author.Needs.{needs}
 use Rattle.recording.proofs.causes.co_ring.Statement.{statement}
 use Rattle.recording.proofs.causes.co_ring.Tie as tie
 
-links-requires : tie.Need-links-requires
-links-requires c κs = search needs
+link-rows-requires : tie.Need-link-rows-requires
+link-rows-requires c κs = search needs
 
-same-location-requires : tie.Need-same-location-requires
-same-location-requires c κs = search needs
-
-coherence-requires : tie.Need-coherence-requires
-coherence-requires c κs = search needs
+closure-requires : tie.Need-closure-requires
+closure-requires c κs = search needs
 
 diagonal-requires : tie.Need-diagonal-requires
 diagonal-requires c κs = search needs
@@ -25,17 +22,10 @@ first-requires : tie.Need-first-requires
 first-requires c κs = search needs
 
 returns : tie.Need-returns
-unfolding coRing
 returns c =
-    ap (λ (x : ℕ). ltb x 64) (c .first .ensures ∙ ap (least 64) (c .before .diagonal .ensures ∙ ap diagonal (c .before .before .coherence .ensures))) ∙ some-least _
+    let start = c .before .before .before .before .before in
+    ap (λ (x : ℕ). ltb x 64) (c .first .ensures ∙ ap (least 64) (c .before .diagonal .ensures ∙ ap diagonal (c .before .before .closure .ensures))) ∙ some-least _
+    ∙ co-ring-is _ (start .pre .sized) _ (c .before .before .before .link-rows .ensures)
 
 pub co-ring-spec : {M : Type 1} → statement M
-co-ring-spec =
-    tie.close
-    (tie.spec
-    links-requires
-    same-location-requires
-    coherence-requires
-    diagonal-requires
-    first-requires
-    returns)
+co-ring-spec = tie.close (tie.spec link-rows-requires closure-requires diagonal-requires first-requires returns)
