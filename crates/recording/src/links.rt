@@ -72,9 +72,9 @@ pub fn sources(file: &[u8], b: usize, t: usize) -> [u8; 8]
         if m == 0 {
             return r;
         }
+        let more = row::with(r, field::link_byte(file, m, 2));
         if field::link_byte(file, m, 1) == t {
-            let z = row::with(r, field::link_byte(file, m, 2));
-            r = z;
+            r = more;
         }
         let next = cursor.moved(file, from, 4);
         cursor = next;

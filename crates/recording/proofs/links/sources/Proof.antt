@@ -64,6 +64,13 @@ link-byte-requires c κs =
     let one = gathered-head _ _ _ _ (at-loop .loop .n - 1) _ _ (omega arith) (c .if1 .left) (inv .4) in
     (inv .0, omega (arith, c .if1 .left), readable-le _ _ one, search needs)
 
+with-requires : tie.Need-with-requires Inv-loop μ-loop
+with-requires c κs =
+    let at-loop = c .before .before .before in
+    let some-link = c .before .if1 .left in
+    let one = gathered-head _ _ _ _ (at-loop .loop .n - 1) _ _ (omega arith) some-link (at-loop .loop .inv .4) in
+    omega (arith, readable-lt _ _ one, c .link-byte .ensures .0)
+
 link-byte-requires-2 : tie.Need-link-byte-requires-2 Inv-loop μ-loop
 link-byte-requires-2 c κs =
     let at-loop = c .before .before .before .before in
@@ -72,18 +79,11 @@ link-byte-requires-2 c κs =
     let one = gathered-head _ _ _ _ (at-loop .loop .n - 1) _ _ (omega arith) some-link (inv .4) in
     (inv .0, omega (arith, some-link), readable-le _ _ one, search needs)
 
-with-requires : tie.Need-with-requires Inv-loop μ-loop
-with-requires c κs =
-    let at-loop = c .before .before .before .before .before in
-    let some-link = c .before .before .before .if1 .left in
-    let one = gathered-head _ _ _ _ (at-loop .loop .n - 1) _ _ (omega arith) some-link (at-loop .loop .inv .4) in
-    omega (arith, readable-lt _ _ one, c .link-byte2 .ensures .0)
-
 moved-requires : tie.Need-moved-requires Inv-loop μ-loop
 moved-requires c κs =
-    let at-loop = c .before .before .before .before in
+    let at-loop = c .before .before .before .before .before .before in
     let inv = at-loop .loop .inv in
-    let some-link = c .before .before .if1 .left in
+    let some-link = c .before .before .before .before .if1 .left in
     let inside = readable-le _ _ (gathered-head _ _ _ _ (at-loop .loop .n - 1) _ _ (omega arith) some-link (inv .4)) in
     (omega (arith, some-link), omega (arith, inside, inv .0 .long, inv .3, some-link))
 
@@ -95,13 +95,20 @@ loop-less c = search needs
 
 loop-again : tie.Need-loop-again Inv-loop μ-loop
 loop-again c =
-    let at-loop = c .before .before .before .before .before in
+    let at-loop = c .before .before .before .before .before .before .before in
     let inv = at-loop .loop .inv in
-    let some-link = c .before .before .before .if1 .left in
+    let some-link = c .before .before .before .before .before .if1 .left in
     let next = moved-link _ _ _ _ (inv .3) (c .moved .ensures .0) in
-    let type-read = c .before .before .link-byte .ensures .0 in
+    let type-read = c .before .before .link-byte2 .ensures .0 in
     elim (c .before .if2 .came) [
-      | inl w ↦ rw (w .3) (inv .0, inv .1, inv .2, inv .3, gathered-with _ _ _ _ _ _ _ _ _ _ _ (omega arith) some-link (inv .4) next type-read (w .0 .taken) (w .1 .ensures .0) (w .2 .ensures))
+      | inl w ↦ rw (w .1) (
+        inv .0,
+        inv .1,
+        inv .2,
+        inv .3,
+        gathered-with _ _ _ _ _ _ _ _ _ _ _ (omega arith) some-link (inv .4) next type-read (w .0 .taken)
+            (c .before .before .before .before .link-byte .ensures .0) (c .before .before .before .with .ensures),
+      )
       | inr w ↦ rw (w .1) (inv .0, inv .1, inv .2, inv .3, gathered-keep _ _ _ _ _ _ _ _ _ (omega arith) some-link (inv .4) next type-read (w .0 .left))
     ]
 
@@ -127,8 +134,8 @@ sources-spec =
     loop-holds
     returns
     link-byte-requires
-    link-byte-requires-2
     with-requires
+    link-byte-requires-2
     moved-requires
     sub-n
     loop-less
