@@ -1,18 +1,18 @@
 -- Laws of the bits of bytes and of rows. Assumes nothing.
 use mathlib.Core.Path.{_≡_, refl, sym, ap, ap₂, subst, _∙_, fun-ext}
-use mathlib.Core.List.{List, [], _∷_}
-use mathlib.Core.Bool.{Bool, true, false, not, _&&_, _||_, xor, Bool·beq}
-use Prim.Native.Nat.{ℕ, zero, suc, _+_, _*_, _/_, _%_, _^_, _<_, _≤_, min, max}
+use mathlib.Core.List.{List}
+use mathlib.Core.Bool.{Bool, true, false, not, _&&_, _||_, Bool·beq}
+use Prim.Native.Nat.{ℕ, zero, suc, _+_, _/_, _%_, _^_, _<_, _≤_}
 use native.Mathlib.Nat.{zero-div}
 use native.Mathlib.Omega.{arith}
 use native.Mathlib.Decide.{ℕ-discrete, decLt}
 use borrow.Author.Count.{below-more}
-use borrow.Author.Tests.{eq-eqb, ne-eqb, lt-ltb, le-ltb}
-use lib.Dec.{T, eqb, eqb→eq, ltb, lt→ltb}
-use lib.ListN.{length, getD, set, replicate, length-set, List·getD-eq-default}
+use borrow.Author.Tests.{lt-ltb, le-ltb}
+use lib.Dec.{T, eqb, ltb}
+use lib.ListN.{length, getD, set, replicate, length-set}
 use lib.Seq.{getD-set-same, getD-set-other}
-use lib.Bits.{bitAnd, bitOr, bitXor, and-shr, or-shr, xor-shr, and-mod, or-mod, xor-mod, and-mask, mask-lt}
-use Rattle.relation.specs.Rel.{Set, empty, single, union, intersection, difference}
+use lib.Bits.{bitAnd, bitOr, bitXor, and-shr, or-shr, xor-shr, and-mod, or-mod, xor-mod}
+use Rattle.relation.specs.Rel.{empty}
 use Rattle.relation.specs.Bits.{on, bit}
 use Rattle.relation.specs.Ring.{under}
 
@@ -76,7 +76,7 @@ pub bit-in : (row : List ℕ) (j : ℕ) → j < 64 → bit row j ≡ on (getD ro
 unfolding bit
 bit-in row j h = ap (λ (b : Bool). b && on (getD row (j / 8) 0) (j % 8)) (lt-ltb j 64 h)
 
--- 1 << k has bit k alone, by a test of the 64 pairs of bit numbers.
+-- A test of every number below n.
 all : ℕ → (ℕ → Bool) → Bool
 all zero f = true
 all (suc n) f = f n && all n f
@@ -92,88 +92,6 @@ all-at (suc n) f t k h =
       | yes e ↦ subst (λ (m : ℕ). T (f m)) (sym e) (and-true (f n) (all n f) t .0)
       | no d ↦ all-at n f (and-true (f n) (all n f) t .1) k (omega (arith, d))
     ]
-
--- 1u8 << k
-abbrev pub shifted : ℕ → ℕ
-shifted k = (1 * 2 ^ k) % 256
-
-same : Bool → Bool → Bool
-same = Bool·beq
-
-same-eq : (a b : Bool) → T (same a b) → a ≡ b
-unfolding same
-same-eq true true t = refl
-same-eq false false t = refl
-
-shifted-test : T (all 8 (λ k. all 8 (λ m. same (on (shifted k) m) (eqb k m))))
-unfolding all same on
-shifted-test = tt
-
-pub on-shifted : (k m : ℕ) → k < 8 → m < 8 → on (shifted k) m ≡ eqb k m
-on-shifted k m hk hm =
-    same-eq _ _
-    (all-at 8 (λ n. same (on (shifted k) n) (eqb k n)) (all-at 8 (λ l. all 8 (λ n. same (on (shifted l) n) (eqb l n))) shifted-test k hk) m hm)
-
--- In the byte of event j, the bit of event i is that of j where i is j, for two events of that byte.
-same-byte : (i j : ℕ) → i / 8 ≡ j / 8 → eqb (j % 8) (i % 8) ≡ eqb j i
-same-byte i j e =
-    elim (ℕ-discrete j i) [
-      | yes p ↦ eq-eqb _ _ (ap (λ (n : ℕ). n % 8) p) ∙ sym (eq-eqb _ _ p)
-      | no d ↦ ne-eqb (j % 8) (i % 8) (λ q. d (omega (arith, q, e))) ∙ sym (ne-eqb j i d)
-    ]
-
--- One bit of a row is changed by an operation with 1 << j % 8, and no other.
-module _ (f : ℕ → ℕ → ℕ) (b : Bool → Bool → Bool) (each : Bitwise f b) (keeps : (x : Bool) → b x false ≡ x)
-    (row : List ℕ) (j : ℕ) (long : length row ≡ 8) (inside : j < 64) where
-  changed : List ℕ
-  changed = set row (j / 8) (f (getD row (j / 8) 0) (shifted (j % 8)))
-
-  changed-here : (i : ℕ) → i / 8 ≡ j / 8 → bit changed i ≡ b (bit row i) (eqb j i)
-  unfolding changed
-  changed-here i e =
-      bit-in _ i (omega arith)
-      ∙ ap (λ (x : ℕ). on x (i % 8)) (rw e (getD-set-same row (j / 8) _ 0 (omega arith)))
-      ∙ each (getD row (j / 8) 0) (shifted (j % 8)) (i % 8)
-      ∙ ap₂ b (ap (λ (n : ℕ). on (getD row n 0) (i % 8)) (sym e) ∙ sym (bit-in row i (omega arith)))
-      (on-shifted (j % 8) (i % 8) (omega arith) (omega arith) ∙ same-byte i j e)
-
-  changed-there : (i : ℕ) → (i / 8 ≡ j / 8 → ⊥) → bit changed i ≡ b (bit row i) (eqb j i)
-  unfolding changed bit
-  changed-there i d =
-      ap (λ (x : ℕ). ltb i 64 && on x (i % 8)) (getD-set-other row (j / 8) (i / 8) _ 0 d)
-      ∙ sym (keeps (bit row i)) ∙ ap (b (bit row i)) (sym (ne-eqb j i (λ p. d (ap (λ (n : ℕ). n / 8) (sym p)))))
-
-  pub bit-changed : (i : ℕ) → bit (set row (j / 8) (f (getD row (j / 8) 0) (shifted (j % 8)))) i ≡ b (bit row i) (eqb j i)
-  unfolding changed
-  bit-changed i = elim (ℕ-discrete (i / 8) (j / 8)) [ yes e ↦ changed-here i e | no d ↦ changed-there i d ]
-
-or-false : (x : Bool) → x || false ≡ x
-or-false true = refl
-or-false false = refl
-
-but-false : (x : Bool) → but x false ≡ x
-but-false true = refl
-but-false false = refl
-
--- j & 7 is j % 8, as the code writes it.
-abbrev pub low : ℕ → ℕ
-low j = bitAnd j 7
-
-pub low-lt : (j : ℕ) → low j < 8
-low-lt j = mask-lt j 3
-
-pub low-mod : (j : ℕ) → low j ≡ j % 8
-low-mod j = and-mask j 3
-
-pub bit-with : (row : List ℕ) (j : ℕ) → length row ≡ 8 → j < 64
-    → bit (set row (j / 8) (bitOr (getD row (j / 8) 0) (shifted (low j)))) ≡ union (bit row) (single j)
-unfolding union single
-bit-with row j l h = rw (low-mod j) (fun-ext (bit-changed bitOr _||_ on-or or-false row j l h))
-
-pub bit-without : (row : List ℕ) (j : ℕ) → length row ≡ 8 → j < 64
-    → bit (set row (j / 8) (bitBut (getD row (j / 8) 0) (shifted (low j)))) ≡ difference (bit row) (single j)
-unfolding difference single
-bit-without row j l h = rw (low-mod j) (fun-ext (bit-changed bitBut but on-but but-false row j l h))
 
 -- Rows of eight bytes, made byte by byte with f: k of them are done.
 pub record Bytes (f : ℕ → ℕ → ℕ) (a b r : List ℕ) (k : ℕ) : Type 0 where

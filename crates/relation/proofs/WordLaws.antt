@@ -1,20 +1,22 @@
 -- Laws of a row as one number: its bits are the row's, and its lowest set bit is the smallest member. Assumes nothing.
 use mathlib.Core.Path.{_≡_, refl, sym, ap, ap₂, subst, _∙_, fun-ext}
 use mathlib.Core.List.{List, [], _∷_}
-use mathlib.Core.Bool.{Bool, true, false, _&&_, _||_}
+use mathlib.Core.Bool.{Bool, true, false, _||_}
 use Prim.Native.Nat.{ℕ, zero, suc, _+_, _-_, _*_, _/_, _%_, _^_, _<_, _≤_}
 use native.Mathlib.Nat.{zero-div, mul-assoc, div-one}
 use native.Mathlib.Omega.{arith}
-use native.Mathlib.Decide.{decLt}
+use native.Mathlib.Decide.{ℕ-discrete, decLt}
+use borrow.Author.Tests.{eq-eqb, ne-eqb, lt-ltb, le-ltb}
 use lib.Dec.{eqb, ltb}
 use lib.Arith.{lt-one}
-use lib.Pow.{pow-add, shr-lt, shl-shr, shr-shr}
+use lib.Pow.{pow-add, shr-lt, shl-shr, shr-shr, shl-exact, high, ones-lt, ones-split}
 use lib.Bits.{bitAnd, bitOr, and-mask, or-shifted, shifted-even}
 use lib.Count.{ones, ones-step, ones-le, trailingZeros, under, trailing-le}
 use lib.ListN.{length, getD, List·getD-eq-default}
-use Rattle.relation.specs.Rel.{Set, least, count, Next}
+use Rattle.relation.specs.Rel.{Set, single, union, difference, least, count, Next}
 use Rattle.relation.specs.Bits.{on, bit}
-use Rattle.relation.proofs.ByteLaws.{on-or, on-zero, bit-in, bit-out}
+use Rattle.relation.specs.Ring as ring
+use Rattle.relation.proofs.ByteLaws.{on-or, on-but, bitBut, but, on-zero, bit-in, bit-out}
 use Rattle.relation.proofs.SetLaws.{or-false, Least, least-is}
 
 -- Below k, w times 2 ^ k has no bit; from k on it has those of w.
@@ -97,6 +99,105 @@ bit-word row l h =
           ∙ ap (λ (n : ℕ). on n (j % 8)) (sym (List·getD-eq-default row 0 (omega (arith, l, p)))) ∙ sym (on-word row h j)
     ])
     ∙ ap on (sym (summed row l))
+
+-- A row of bytes.
+data Small : List ℕ → Type 0 where
+  none : Small []
+  more : {b : ℕ} {row : List ℕ} → b < 256 → Small row → Small (b ∷ row)
+
+small-at : (row : List ℕ) → Small row → (k : ℕ) → getD row k 0 < 256
+small-at [] none k = omega arith
+small-at (b ∷ row) (more h g) zero = h
+small-at (b ∷ row) (more h g) (suc k) = small-at row g k
+
+-- The bytes of a number, the lowest first, as the code takes them apart.
+pub bytes-bit : (w : ℕ) → w < 18446744073709551616
+    → bit (w % 256 ∷ w / 256 % 256 ∷ w / 65536 % 256 ∷ w / 16777216 % 256 ∷ w / 4294967296 % 256 ∷ w / 1099511627776 % 256
+    ∷ w / 281474976710656 % 256 ∷ w / 72057594037927936 % 256 ∷ []) ≡ on w
+bytes-bit w h =
+    let row : List ℕ = w % 256 ∷ w / 256 % 256 ∷ w / 65536 % 256 ∷ w / 16777216 % 256 ∷ w / 4294967296 % 256 ∷ w / 1099511627776 % 256
+    ∷ w / 281474976710656 % 256 ∷ w / 72057594037927936 % 256 ∷ [] in
+    let all : Small row = more (low w) (more (low (w / 256)) (more (low (w / 65536)) (more (low (w / 16777216)) (more (low (w / 4294967296))
+    (more (low (w / 1099511627776)) (more (low (w / 281474976710656)) (more (low (w / 72057594037927936)) none))))))) in
+    bit-word row refl (small-at row all)
+    ∙ ap on
+    (joined w (w / 256) (w / 65536) (w / 16777216) (w / 4294967296) (w / 1099511627776) (w / 281474976710656) (w / 72057594037927936)
+    (omega arith) (omega arith) (omega arith) (omega arith) (omega arith) (omega arith) (omega arith) (omega (arith, h)))
+  where
+    low : (x : ℕ) → x % 256 < 256
+    low x = omega arith
+
+    joined : (a b c d e f g h : ℕ) → a / 256 ≡ b → b / 256 ≡ c → c / 256 ≡ d → d / 256 ≡ e → e / 256 ≡ f → f / 256 ≡ g → g / 256 ≡ h → h / 256 ≡ 0
+        → a % 256 + 256 * (b % 256) + 65536 * (c % 256) + 16777216 * (d % 256) + 4294967296 * (e % 256) + 1099511627776 * (f % 256)
+        + 281474976710656 * (g % 256) + 72057594037927936 * (h % 256) ≡ a
+    joined a b c d e f g h p q r s t u v w =
+        sums a b c d e f g h (a % 256) (b % 256) (c % 256) (d % 256) (e % 256) (f % 256) (g % 256) (h % 256)
+        (omega (arith, p)) (omega (arith, q)) (omega (arith, r)) (omega (arith, s)) (omega (arith, t)) (omega (arith, u)) (omega (arith, v)) (omega (arith, w))
+      where
+        sums : (a b c d e f g h i j k l m n o x : ℕ) → a ≡ i + 256 * b → b ≡ j + 256 * c → c ≡ k + 256 * d → d ≡ l + 256 * e → e ≡ m + 256 * f
+            → f ≡ n + 256 * g → g ≡ o + 256 * h → h ≡ x
+            → i + 256 * j + 65536 * k + 16777216 * l + 4294967296 * m + 1099511627776 * n + 281474976710656 * o + 72057594037927936 * x ≡ a
+        sums a b c d e f g h i j k l m n o x p q r s t u v w = omega (arith, p, q, r, s, t, u, v, w)
+
+-- 1u64 << k
+abbrev pub flag : ℕ → ℕ
+flag k = (1 * 2 ^ k) % 18446744073709551616
+
+flag-exact : (k : ℕ) → k < 64 → flag k ≡ 1 * 2 ^ k
+flag-exact k h = shl-exact {a = 1} 1 k 64 (omega arith) (omega arith)
+
+-- It has bit k alone.
+on-one : (i : ℕ) → on 1 i ≡ eqb 0 i
+unfolding on
+on-one zero = refl
+on-one (suc i) = ap (on 1) {x = suc i} {y = 1 + i} (omega arith) ∙ on-over 1 1 i (omega arith) ∙ sym (ne-eqb 0 (suc i) (λ e. omega (arith, e)))
+
+on-flag : (k j : ℕ) → k < 64 → on (flag k) j ≡ eqb k j
+on-flag k j h =
+    ap (λ (n : ℕ). on n j) (flag-exact k h)
+    ∙ elim (decLt j k) [
+      | yes p ↦ on-below 1 k j p ∙ sym (ne-eqb k j (λ e. omega (arith, e, p)))
+      | no p ↦ ap (on (1 * 2 ^ k)) {x = j} {y = k + (j - k)} (omega (arith, p)) ∙ on-above 1 k (j - k) ∙ on-one (j - k) ∙ from-zero k j (omega (arith, p))
+    ]
+  where
+    from-zero : (k j : ℕ) → k ≤ j → eqb 0 (j - k) ≡ eqb k j
+    from-zero k j l =
+        elim (ℕ-discrete k j) [
+          | yes e ↦ eq-eqb 0 (j - k) (omega (arith, e)) ∙ sym (eq-eqb k j e)
+          | no d ↦ ne-eqb 0 (j - k) (λ e. d (omega (arith, e, l))) ∙ sym (ne-eqb k j d)
+        ]
+
+-- A member more, and a member less, by a bit of the row's number.
+pub on-with : (s : Set) (w j : ℕ) → s ≡ on w → j < 64 → on (bitOr w (flag j)) ≡ union s (single j)
+unfolding union single
+on-with s w j e h = fun-ext (λ i. on-or w (flag j) i ∙ ap₂ _||_ (ap (λ (f : Set). f i) (sym e)) (on-flag j i h))
+
+pub on-without : (s : Set) (w j : ℕ) → s ≡ on w → j < 64 → on (bitBut w (flag j)) ≡ difference s (single j)
+unfolding difference single
+on-without s w j e h = fun-ext (λ i. on-but w (flag j) i ∙ ap₂ but (ap (λ (f : Set). f i) (sym e)) (on-flag j i h))
+
+-- (1u64 << n) - 1 has the bits below n.
+on-ones : (n j : ℕ) → on (2 ^ n - 1) j ≡ ltb j n
+unfolding on
+on-ones n j =
+    elim (decLt j n) [
+      | yes p ↦ ap (λ (x : ℕ). on x j) (ap (λ (m : ℕ). 2 ^ m - 1) {x = n} {y = suc (n - suc j) + j} (omega (arith, p)) ∙ ones-split (suc (n - suc j)) j)
+          ∙ ap (λ (x : ℕ). eqb (x % 2) 1) (high (2 ^ suc (n - suc j) - 1) j (ones-lt j)) ∙ odd (n - suc j) ∙ sym (lt-ltb j n p)
+      | no p ↦ ap (on (2 ^ n - 1)) {x = j} {y = n + (j - n)} (omega (arith, p)) ∙ on-over (2 ^ n - 1) n (j - n) (ones-lt n)
+          ∙ sym (le-ltb j n (omega (arith, p)))
+    ]
+  where
+    odd : (d : ℕ) → eqb ((2 ^ suc d - 1) % 2) 1 ≡ true
+    odd d =
+        let e : 2 ^ suc d - 1 ≡ (2 ^ d - 1) * 2 ^ 1 + (2 ^ 1 - 1) = ap (λ (m : ℕ). 2 ^ m - 1) {x = suc d} {y = d + 1} (omega arith) ∙ ones-split d 1 in
+        eq-eqb ((2 ^ suc d - 1) % 2) 1 (omega (arith, e))
+
+pub flag-some : (n : ℕ) → n < 64 → 1 ≤ flag n
+flag-some n h = let e : flag n ≡ 1 * 2 ^ n = flag-exact n h in omega (arith, e, ones-lt n)
+
+pub on-under : (n : ℕ) → n < 64 → on (flag n - 1) ≡ ring.under n
+unfolding ring.under
+on-under n h = fun-ext (λ j. ap (λ (x : ℕ). on (x - 1) j) (flag-exact n h ∙ omega arith) ∙ on-ones n j)
 
 -- The zeros below the lowest set bit of a number count up to the smallest number in the set of its bits.
 on-half : (w : ℕ) → (λ (j : ℕ). on w (suc j)) ≡ on (w / 2)

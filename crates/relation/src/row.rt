@@ -34,6 +34,33 @@ fn word(row: [u8; 8]) -> u64
         + 0x100000000000000 * (row[7] as u64)
 }
 
+// The row whose bits are those of a number.
+fn bytes(w: u64) -> [u8; 8]
+    ensures { λ r. ⌜ bit r ≡ on w ⌝ }
+{
+    [
+        (w % 256) as u8,
+        ((w >> 8) % 256) as u8,
+        ((w >> 16) % 256) as u8,
+        ((w >> 24) % 256) as u8,
+        ((w >> 32) % 256) as u8,
+        ((w >> 40) % 256) as u8,
+        ((w >> 48) % 256) as u8,
+        ((w >> 56) % 256) as u8,
+    ]
+}
+
+// The numbers below n.
+pub fn below(n: usize) -> [u8; 8]
+    requires { ⌜ n ≤ 64 ⌝ }
+    ensures { λ r. ⌜ bit r ≡ under n ⌝ }
+{
+    if n == 64 {
+        return all();
+    }
+    bytes((1u64 << n) - 1)
+}
+
 // Whether j is in the set.
 pub fn has(row: [u8; 8], j: usize) -> bool
     requires { ⌜ j < 64 ⌝ }
@@ -47,9 +74,7 @@ pub fn with(row: [u8; 8], j: usize) -> [u8; 8]
     requires { ⌜ j < 64 ⌝ }
     ensures { λ r. ⌜ bit r ≡ union (bit row) (single j) ⌝ }
 {
-    let mut r = row;
-    r[j >> 3] = r[j >> 3] | (1u8 << (j & 7));
-    r
+    bytes(word(row) | (1u64 << j))
 }
 
 // The set without j.
@@ -57,9 +82,8 @@ pub fn without(row: [u8; 8], j: usize) -> [u8; 8]
     requires { ⌜ j < 64 ⌝ }
     ensures { λ r. ⌜ bit r ≡ difference (bit row) (single j) ⌝ }
 {
-    let mut r = row;
-    r[j >> 3] = r[j >> 3] ^ (r[j >> 3] & (1u8 << (j & 7)));
-    r
+    let w = word(row);
+    bytes(w ^ (w & (1u64 << j)))
 }
 
 // The set where b holds, and else no event.

@@ -1,24 +1,21 @@
 -- `row::with` meets its contract: one bit is set and no other. Assumes nothing.
-use native.Mathlib.Omega.{arith}
-use Rattle.relation.proofs.ByteLaws.{bit-with, low-lt}
+use mathlib.Core.Path.{_∙_}
+use Rattle.relation.proofs.WordLaws.{on-with}
 use borrow.Author.Needs.{needs}
 use Rattle.relation.proofs.row.with.Statement.{statement}
 use Rattle.relation.proofs.row.with.Tie as tie
 
-array-read-r : tie.Need-array-read-r
-array-read-r c = search needs
+word-requires : tie.Need-word-requires
+word-requires c κs = search needs
 
-cast-r : tie.Need-cast-r
-cast-r c = omega (arith, low-lt (c .args .j))
+shl-bytes : tie.Need-shl-bytes
+shl-bytes c = search needs
 
-shl-r : tie.Need-shl-r
-shl-r c = low-lt (c .args .j)
-
-array-write-r : tie.Need-array-write-r
-array-write-r c = search needs
+bytes-requires : tie.Need-bytes-requires
+bytes-requires c κs = search needs
 
 returns : tie.Need-returns
-returns c = bit-with (c .args .row) (c .args .j) (search needs) (c .pre)
+returns c = c .bytes .ensures ∙ on-with _ _ _ (c .before .word .ensures) (c .before .before .pre)
 
 pub with-spec : {M : Type 1} → statement M
-with-spec = tie.close (tie.spec array-read-r cast-r shl-r array-write-r returns)
+with-spec = tie.close (tie.spec word-requires shl-bytes bytes-requires returns)
