@@ -1,15 +1,14 @@
 -- `graph::program_order` meets its contract, call by call. Assumes nothing.
-use Rattle.recording.specs.Sets.{membersOf}
 use Rattle.recording.proofs.GraphLaws.{po-is}
 use borrow.Author.Needs.{needs}
 use Rattle.recording.proofs.graph.program_order.Statement.{statement}
 use Rattle.recording.proofs.graph.program_order.Tie as tie
 
-members-requires : tie.Need-members-requires
-members-requires c κs = search needs
+initial-requires : tie.Need-initial-requires
+initial-requires c κs = search needs
 
-members-requires-2 : tie.Need-members-requires-2
-members-requires-2 c κs = search needs
+recorded-requires : tie.Need-recorded-requires
+recorded-requires c κs = search needs
 
 product-requires : tie.Need-product-requires
 product-requires c κs = search needs
@@ -24,17 +23,16 @@ or-requires : tie.Need-or-requires
 or-requires c κs = search needs
 
 returns : tie.Need-returns
-unfolding membersOf
 returns c =
-    po-is _ _ _ _ _ _ _ (c .before .before .before .before .before .members .ensures) (c .before .before .before .before .members2 .ensures)
+    po-is _ _ _ _ _ _ _ (c .before .before .before .before .before .initial .ensures) (c .before .before .before .before .recorded .ensures)
     (c .before .before .before .product .ensures) (c .before .before .next .ensures) (c .before .closure .ensures) (c .or .ensures)
 
 pub program-order-spec : {M : Type 1} → statement M
 program-order-spec =
     tie.close
     (tie.spec
-    members-requires
-    members-requires-2
+    initial-requires
+    recorded-requires
     product-requires
     next-requires
     closure-requires
