@@ -1,13 +1,13 @@
 // The execution of a loaded recording as arrays: its sets as rows, its relations as grids, each at the place that `verdict` gives it.
 
-use recording::Members;
 use recording::graph;
+use recording::sets;
 use relation::grid;
 use relation::row;
 ghost use mathlib.Core.Path.{_≡_};
 ghost use Rattle.relation.specs.Bits.{bit, edge};
 ghost use Rattle.relation.specs.Rel.{nodes};
-ghost use Rattle.models.specs.Recording.{event, ofClass, acquireFence, releaseFence};
+ghost use Rattle.models.specs.Recording.{event};
 ghost use Rattle.models.specs.Graph.{base};
 ghost use Rattle.recording.specs.Decode.{decode};
 ghost use Rattle.recording.specs.Causes.{refusal};
@@ -18,34 +18,7 @@ pub fn events(file: &[u8]) -> [u8; 8]
     requires { ⌜ refusal (now file) ≡ 0 ⌝ }
     ensures { λ r. ⌜ bit r ≡ event (decode (now (file .entry))) ⌝ }
 {
-    row::or(
-        graph::members(file, Members::Initial),
-        graph::members(file, Members::Recorded),
-    )
-}
-
-// Fences of mode 1, 3 or 4.
-pub fn acquire_fences(file: &[u8], fences: [u8; 8]) -> [u8; 8]
-    requires { ⌜ (refusal (now file) ≡ 0) × (bit fences ≡ ofClass (decode (now file)) 3) ⌝ }
-    ensures { λ r. ⌜ bit r ≡ acquireFence (decode (now (file .entry))) ⌝ }
-{
-    let some = row::or(
-        graph::select(file, fences, Members::Mode(3, 1)),
-        graph::select(file, fences, Members::Mode(3, 3)),
-    );
-    row::or(some, graph::select(file, fences, Members::Mode(3, 4)))
-}
-
-// Fences of mode 2, 3 or 4.
-pub fn release_fences(file: &[u8], fences: [u8; 8]) -> [u8; 8]
-    requires { ⌜ (refusal (now file) ≡ 0) × (bit fences ≡ ofClass (decode (now file)) 3) ⌝ }
-    ensures { λ r. ⌜ bit r ≡ releaseFence (decode (now (file .entry))) ⌝ }
-{
-    let some = row::or(
-        graph::select(file, fences, Members::Mode(3, 2)),
-        graph::select(file, fences, Members::Mode(3, 3)),
-    );
-    row::or(some, graph::select(file, fences, Members::Mode(3, 4)))
+    row::or(sets::initial(file), sets::recorded(file))
 }
 
 // The sets: all events, initial writes, reads, writes, fences, acquire and exclusive reads, release and strong writes,
@@ -54,24 +27,31 @@ pub fn sets(file: &[u8]) -> [[u8; 8]; 14]
     requires { ⌜ refusal (now file) ≡ 0 ⌝ }
     ensures { λ r. ⌜ SetsOf (decode (now (file .entry))) r ⌝ }
 {
-    let reads = graph::members(file, Members::Class(1));
-    let writes = graph::members(file, Members::Class(2));
-    let fences = graph::members(file, Members::Class(3));
+    let initial = sets::initial(file);
+    let recorded = sets::recorded(file);
+    let classes = sets::sorted(file, recorded, 1);
+    // reads and writes by mode and by flag, fences by mode
+    let reads = sets::sorted(file, classes[1], 2);
+    let exclusive = sets::sorted(file, classes[1], 3);
+    let writes = sets::sorted(file, classes[2], 2);
+    let strong = sets::sorted(file, classes[2], 3);
+    let fences = sets::sorted(file, classes[3], 2);
+    let both = row::or(fences[3], fences[4]);
     [
-        events(file),
-        graph::members(file, Members::Initial),
-        reads,
-        writes,
-        fences,
-        graph::select(file, reads, Members::Mode(1, 1)),
-        graph::select(file, reads, Members::Flagged(1)),
-        graph::select(file, writes, Members::Mode(2, 2)),
-        graph::select(file, writes, Members::Flagged(2)),
-        acquire_fences(file, fences),
-        release_fences(file, fences),
-        graph::select(file, fences, Members::Mode(3, 4)),
-        graph::select(file, fences, Members::Mode(3, 5)),
-        graph::select(file, fences, Members::Mode(3, 6)),
+        row::or(initial, recorded),
+        initial,
+        classes[1],
+        row::or(initial, classes[2]),
+        classes[3],
+        reads[1],
+        exclusive[1],
+        writes[2],
+        strong[1],
+        row::or(fences[1], both),
+        row::or(fences[2], both),
+        fences[4],
+        fences[5],
+        fences[6],
     ]
 }
 

@@ -1,30 +1,27 @@
--- Laws of the sets and relations of a file as rows and grids. Assumes nothing.
+-- Laws of the relations of a file as rows and grids. Assumes nothing.
 use mathlib.Core.Path.{_≡_, refl, sym, ap, ap₂, subst, _∙_, fun-ext}
-use mathlib.Core.Bool.{Bool, true, false, not, _&&_, _||_, false≢true}
+use mathlib.Core.Bool.{Bool, true, false, _&&_, _||_}
 use mathlib.Core.List.{List, [], _∷_}
 use mathlib.Core.Logic.{inl, inr}
-use Prim.Native.Nat.{ℕ, zero, suc, _+_, _-_, _<_, _≤_}
-use native.Mathlib.Numerals.{add-one}
+use Prim.Native.Nat.{ℕ, zero, suc, _+_, _<_, _≤_}
 use native.Mathlib.Omega.{arith}
-use native.Mathlib.Decide.{ℕ-discrete, decLt}
-use borrow.Author.Tests.{eq-eqb, ne-eqb, eqb-true, lt-leb, le-ltb, ltb-true, leb-true}
+use native.Mathlib.Decide.{ℕ-discrete}
+use borrow.Author.Tests.{eq-eqb, ne-eqb, eqb-true, ltb-true, leb-true}
 use lib.Dec.{eqb, leb, ltb}
 use lib.ListN.{length, getD, set, replicate, length-set}
 use lib.Seq.{getD-set-same, getD-set-other}
-use Rattle.relation.specs.Rel.{least, Next, Set, Rel, empty, none, single, union, intersection, product, inverse, either, both, some, below}
+use Rattle.relation.specs.Rel.{Set, Rel, empty, none, single, union, intersection, product, inverse, either, both, below}
 use Rattle.relation.specs.Bits.{bit, edge}
 use Rattle.relation.proofs.GridLaws.{Rows, rows-skip}
-use Rattle.relation.proofs.Meaning.{Mem, and-left, and-right, and-both, or-either, or-left, or-right, some-sound, some-complete, mem-below, below-mem}
-use Rattle.relation.proofs.SetLaws.{and-false, Least, least-is, upto, upto-none, upto-with, upto-keep, upto-skip, upto-done}
-use Rattle.models.specs.Recording.{Recording, event, ofClass, ofMode, flagged, access, sameLocation, coStep}
+use Rattle.relation.proofs.Meaning.{and-left, and-right, and-both, or-either}
+use Rattle.relation.proofs.SetLaws.{and-false, upto, upto-none, upto-with, upto-keep, upto-skip, upto-done}
+use Rattle.models.specs.Recording.{event, ofClass, access, sameLocation, coStep}
 use Rattle.recording.specs.Layout.{events, locations, Sized}
 use Rattle.recording.specs.Chains.{each}
-use Rattle.recording.specs.Decode.{isRecorded, isInitial, decode, recordOr, fieldOr}
+use Rattle.recording.specs.Decode.{isRecorded, isInitial, decode}
 use Rattle.recording.specs.Causes.{legal, eventLegal, readLegal, writeLegal}
-use Rattle.recording.specs.Sets.{accessAt, membersOf, Following, AccessRows, SourcesInto, LinkRows}
-use Rattle.recording.specs.declared.Members.{Members}
-use Rattle.recording.specs.declared.Members.the-variants.{Recorded, Initial, Class, Mode, Flagged}
-use Rattle.recording.proofs.FieldLaws.{recorded-bounds, event-small, location-initial}
+use Rattle.recording.specs.Sets.{accessAt, Following, AccessRows, SourcesInto, LinkRows}
+use Rattle.recording.proofs.FieldLaws.{recorded-bounds, location-initial}
 use Rattle.recording.proofs.ChainLaws.{each-at}
 use Rattle.recording.proofs.LinkLaws.{empty-row}
 
@@ -56,17 +53,6 @@ module _ (f : List ℕ) (e : ℕ) (r : isRecorded f e ≡ false) (i : isInitial 
   unfolding access
   access-none = rw (class-none 1, class-none 2)
 
-  members-none : (s : Members) → membersOf f s e ≡ false
-  unfolding membersOf ofMode flagged
-  members-none Recorded = r
-  members-none Initial = i
-  members-none (Class k) = class-none k
-  members-none (Mode k m) = rw (class-none k)
-  members-none (Flagged k) = rw (class-none k)
-
-pub members-out : (f : List ℕ) → Sized f → (s : Members) (e : ℕ) → 64 ≤ e → membersOf f s e ≡ false
-members-out f z s e h = members-none f e (recorded-out f z e h) (initial-out f z e h) s
-
 -- No event is numbered between the records and the initial writes.
 gap-recorded : (f : List ℕ) (e : ℕ) → events f < e → isRecorded f e ≡ false
 gap-recorded f e h = refuted (isRecorded f e) (λ p. let (a, b) = recorded-bounds f e p in omega arith)
@@ -75,91 +61,6 @@ gap-initial : (f : List ℕ) (e : ℕ) → e < 56 → isInitial f e ≡ false
 unfolding isInitial
 gap-initial f e g =
     refuted (leb 56 e && ltb e (56 + locations f)) (λ p. let w = leb-true 56 e (and-left (leb 56 e) (ltb e (56 + locations f)) p) in omega arith)
-
-members-gap : (f : List ℕ) (s : Members) (e : ℕ) → events f < e → e < 56 → membersOf f s e ≡ false
-members-gap f s e h g = members-none f e (gap-recorded f e h) (gap-initial f e g) s
-
-pub members-on : (f : List ℕ) (s : Members) (n e r : ℕ) (t : Set) → n ≡ events f → t ≡ upto (e + 1) (membersOf f s) → Following n e r → t ≡ upto r (membersOf f s)
-members-on f s n e r t p w next =
-    upto-skip (e + 1) r (membersOf f s) t (omega (arith, next .above)) w
-    (λ j a b. let g = next .gap j (omega arith) b in members-gap f s j (omega (arith, g .0, p)) (g .1))
-
--- The members of a row that are in s, member by member: those below e are found, where e is a member or 64.
-pub record Found (row s t : Set) (e : ℕ) : Type 0 where
-  pub high : e ≤ 64
-  pub holds : t ≡ upto e (intersection row s)
-  pub member : e < 64 → row e ≡ true
-
-module _ (row s : Set) where
-  pub found-first : (t : Set) (e : ℕ) → t ≡ empty → e ≡ least 64 row → Found row s t e
-  unfolding intersection
-  found-first t e p q =
-      let l : Least 64 row e = subst (Least 64 row) (sym q) (least-is 64 row) in
-      record {
-        high = l .bound;
-        holds = upto-skip 0 e (intersection row s) t (omega arith) (p ∙ upto-none (intersection row s)) (λ j a b. ap (λ (x : Bool). x && s j) (l .smaller j b));
-        member = l .member;
-      }
-
-  module _ (t : Set) (e : ℕ) (w : Found row s t e) (h : e < 64) (n : ℕ) (next : Next row (e + 1) n) where
-    on-to : (u : Set) → u ≡ upto (e + 1) (intersection row s) → Found row s u n
-    unfolding intersection
-    on-to u p =
-        record {
-          high = next .high;
-          holds = upto-skip (e + 1) n (intersection row s) u (next .low) p (λ j a b. ap (λ (x : Bool). x && s j) (next .before j a b));
-          member = next .member;
-        }
-
-    pub found-with : s e ≡ true → (u : Set) → u ≡ union t (single e) → Found row s u n
-    unfolding intersection
-    found-with q u p = on-to u (p ∙ upto-with e (intersection row s) t (w .holds) (ap₂ _&&_ (w .member h) q))
-
-    pub found-keep : s e ≡ false → Found row s t n
-    unfolding intersection
-    found-keep q = on-to t (upto-keep e (intersection row s) t (w .holds) (ap (λ (x : Bool). row e && x) q ∙ and-false (row e)))
-
-  pub found-all : ((j : ℕ) → 64 ≤ j → row j ≡ false) → (t : Set) (e : ℕ) → 64 ≤ e → Found row s t e → t ≡ intersection row s
-  unfolding intersection
-  found-all out t e h w = upto-done e 64 (intersection row s) t h (w .holds) (λ j g. ap (λ (x : Bool). x && s j) (out j g))
-
-and-twice : (a b : Bool) → a && (a && b) ≡ a && b
-and-twice true b = refl
-and-twice false b = refl
-
--- The events of a class that are of a mode, or flagged, are all of these.
-pub mode-among : (f : List ℕ) (k m : ℕ) (c : Set) → c ≡ ofClass (decode f) k → intersection c (ofMode (decode f) k m) ≡ ofMode (decode f) k m
-unfolding intersection ofMode
-mode-among f k m c p = fun-ext (λ e. ap (λ (s : Set). s e && (ofClass (decode f) k e && eqb (decode f .mode e) m)) p ∙ and-twice (ofClass (decode f) k e) (eqb (decode f .mode e) m))
-
-pub flag-among : (f : List ℕ) (k : ℕ) (c : Set) → c ≡ ofClass (decode f) k → intersection c (flagged (decode f) k) ≡ flagged (decode f) k
-unfolding intersection flagged
-flag-among f k c p = fun-ext (λ e. ap (λ (s : Set). s e && (ofClass (decode f) k e && eqb (decode f .flag e) 1)) p ∙ and-twice (ofClass (decode f) k e) (eqb (decode f .flag e) 1))
-
--- Membership by cases.
-module _ (f : List ℕ) (s : Members) (e : ℕ) (b : Bool) where
-  of-case : (t : Members) → s ≡ t → b ≡ membersOf f t e → b ≡ membersOf f s e
-  of-case t p q = q ∙ ap (λ (u : Members). membersOf f u e) (sym p)
-
-  pub of-recorded : s ≡ Recorded → b ≡ isRecorded f e → b ≡ membersOf f s e
-  unfolding membersOf
-  of-recorded p q = of-case Recorded p q
-
-  pub of-initial : s ≡ Initial → b ≡ isInitial f e → b ≡ membersOf f s e
-  unfolding membersOf
-  of-initial p q = of-case Initial p q
-
-  pub of-class : (k : ℕ) → s ≡ Class k → b ≡ ofClass (decode f) k e → b ≡ membersOf f s e
-  unfolding membersOf
-  of-class k p q = of-case (Class k) p q
-
-  pub of-mode : (k m : ℕ) → s ≡ Mode k m → b ≡ ofMode (decode f) k m e → b ≡ membersOf f s e
-  unfolding membersOf
-  of-mode k m p q = of-case (Mode k m) p q
-
-  pub of-flagged : (k : ℕ) → s ≡ Flagged k → b ≡ flagged (decode f) k e → b ≡ membersOf f s e
-  unfolding membersOf
-  of-flagged k p q = of-case (Flagged k) p q
 
 -- The links into what is no record.
 pub link-none : (f : List ℕ) (t b : ℕ) (s : Set) → s ≡ empty → isRecorded f b ≡ false → s ≡ inverse (decode f .link t) b
@@ -332,11 +233,11 @@ module _ (f : List ℕ) (s : Sized f) (legal-events : each (events f) (eventLega
       omega (arith, s .most-locations)))
 
 -- What co follows from, as the code makes it.
-pub co-is : (f : List ℕ) (i e w u : Set) (a c d b g : Rel) → e ≡ isRecorded f → w ≡ ofClass (decode f) 2 → u ≡ intersection e w → i ≡ isInitial f
-    → a ≡ product i u → c ≡ decode f .link 2 → d ≡ sameLocation (decode f) → g ≡ both a d → b ≡ either c g → b ≡ coStep (decode f)
+pub co-is : (f : List ℕ) (i u : Set) (a c d b g : Rel) → u ≡ intersection (isRecorded f) (ofClass (decode f) 2) → i ≡ isInitial f → a ≡ product i u
+    → c ≡ decode f .link 2 → d ≡ sameLocation (decode f) → g ≡ both a d → b ≡ either c g → b ≡ coStep (decode f)
 unfolding either union both intersection product coStep decode
-co-is f i e w u a c d b g pe pw pu pi pa pc pd pg pb =
-    let q : a ≡ product (isInitial f) (intersection (isRecorded f) (ofClass (decode f) 2)) = pa ∙ ap₂ product pi (pu ∙ ap₂ intersection pe pw) in
+co-is f i u a c d b g pu pi pa pc pd pg pb =
+    let q : a ≡ product (isInitial f) (intersection (isRecorded f) (ofClass (decode f) 2)) = pa ∙ ap₂ product pi pu in
     pb ∙ ap₂ either pc (pg ∙ ap₂ both q pd)
     ∙ fun-ext (λ x. fun-ext (λ y. ap (λ (z : Bool). decode f .link 2 x y || z) (regroup (isInitial f x) (isRecorded f y) (ofClass (decode f) 2 y) (sameLocation (decode f) x y))))
   where

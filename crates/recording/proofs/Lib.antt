@@ -4,6 +4,7 @@ pub mod ChainLaws
 pub mod LegalLaws
 pub mod LinkLaws
 pub mod GraphLaws
+pub mod SortLaws
 pub mod CauseLaws
 pub mod Truth
 pub mod ChainFacts

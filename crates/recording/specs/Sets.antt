@@ -1,27 +1,32 @@
--- The sets of events that `Members` names, and what arrays of rows hold of a file: its accesses by location, its links by type. Assumes nothing.
+-- What arrays of rows hold of a file: its events by a byte of their records, its accesses by location, its links by type. Assumes nothing.
 use mathlib.Core.Path.{_≡_}
-use mathlib.Core.Bool.{_&&_}
+use mathlib.Core.Bool.{true, _&&_}
 use mathlib.Core.List.{List, []}
 use Prim.Native.Nat.{ℕ, _≤_, _<_}
 use lib.Dec.{eqb}
 use lib.ListN.{length, getD}
-use Rattle.relation.specs.Rel.{Set, inverse}
+use Rattle.relation.specs.Rel.{Set, intersection, inverse}
 use Rattle.relation.specs.Bits.{bit, edge}
-use Rattle.models.specs.Recording.{ofClass, ofMode, flagged, access}
-use Rattle.recording.specs.Decode.{isRecorded, isInitial, decode}
-use Rattle.recording.specs.declared.Members.{Members}
-use Rattle.recording.specs.declared.Members.the-variants.{Recorded, Initial, Class, Mode, Flagged}
+use Rattle.models.specs.Recording.{access}
+use Rattle.recording.specs.Layout.{eventByte}
+use Rattle.recording.specs.Decode.{isRecorded, decode}
 
 -- The reads and writes of location l.
 unfoldable pub accessAt : List ℕ → ℕ → Set
 accessAt f l e = access (decode f) e && eqb (decode f .location e) l
 
-unfoldable pub membersOf : List ℕ → Members → Set
-membersOf f Recorded = isRecorded f
-membersOf f Initial = isInitial f
-membersOf f (Class k) = ofClass (decode f) k
-membersOf f (Mode k m) = ofMode (decode f) k m
-membersOf f (Flagged k) = flagged (decode f) k
+-- The numbers of which byte k of the event record is v.
+unfoldable pub holding : List ℕ → ℕ → ℕ → Set
+holding f k v e = eqb (eventByte f e k) v
+
+-- Each member has a record.
+abbrev pub AllRecorded : List ℕ → Set → Type 0
+AllRecorded f s = (e : ℕ) → s e ≡ true → isRecorded f e ≡ true
+
+-- The rows hold the events of s by byte k of their records.
+pub record SortedBy (f : List ℕ) (s : Set) (k : ℕ) (rows : List (List ℕ)) : Type 0 where
+  pub long : length rows ≡ 8
+  pub row : (v : ℕ) → v < 8 → bit (getD rows v []) ≡ intersection s (holding f k v)
 
 -- r comes after e, and between them stands no number of an event, where there are n records.
 pub record Following (n e r : ℕ) : Type 0 where

@@ -3,7 +3,7 @@
 
 ghost use mathlib.Core.Path.{_≡_};
 ghost use Prim.Native.Nat.{_≤_, _<_};
-ghost use Rattle.models.specs.Recording.{event, ofClass, ofMode, flagged, access};
+ghost use Rattle.models.specs.Recording.{event, ofClass, flagged, access};
 ghost use Rattle.recording.specs.Layout.{byte, events, locations, links, eventByte, linkByte, Sized};
 ghost use Rattle.recording.specs.Sets.{Following};
 ghost use Rattle.recording.specs.Decode.{isRecorded, isInitial, fieldOr, decode};
@@ -150,14 +150,6 @@ pub fn of_class(file: &[u8], e: usize, k: usize) -> bool
     ensures { λ r. ⌜ r ≡ ofClass (decode (now (file .entry))) k e ⌝ }
 {
     is_event(file, e) && class_of(file, e) == k
-}
-
-// Whether e is an event of class k and mode m.
-pub fn of_mode(file: &[u8], e: usize, k: usize, m: usize) -> bool
-    requires { ⌜ Sized (now file) ⌝ }
-    ensures { λ r. ⌜ r ≡ ofMode (decode (now (file .entry))) k m e ⌝ }
-{
-    of_class(file, e, k) && mode_of(file, e) == m
 }
 
 // Whether e is an event of class k with flag 1.

@@ -1,9 +1,8 @@
-// The sets and relations of a file's recording, as rows and grids.
+// The relations of a file's recording, as rows and grids.
 
-use crate::Members;
 use crate::field;
-use crate::legal;
 use crate::links;
+use crate::sets;
 use crate::thread;
 use relation::grid;
 use relation::row;
@@ -12,63 +11,14 @@ ghost use mathlib.Core.Bool.{true};
 ghost use Prim.Native.Nat.{ℕ, _≤_, _<_};
 ghost use lib.Dec.{eqb};
 ghost use Rattle.relation.specs.Bits.{bit, edge};
-ghost use Rattle.relation.specs.Rel.{nodes, inverse, intersection};
+ghost use Rattle.relation.specs.Rel.{nodes, inverse};
 ghost use Rattle.models.specs.Recording.{sameLocation, coStep};
 ghost use Rattle.models.specs.Graph.{base};
 ghost use Rattle.recording.specs.Layout.{events, Sized};
 ghost use Rattle.recording.specs.Chains.{each, threadsSound};
 ghost use Rattle.recording.specs.Decode.{decode};
 ghost use Rattle.recording.specs.Causes.{eventLegal, Readable};
-ghost use Rattle.recording.specs.Sets.{accessAt, membersOf, AccessRows, SourcesInto, LinkRows};
-
-// Whether e is in s.
-pub fn is_member(file: &[u8], s: Members, e: usize) -> bool
-    requires { ⌜ Sized (now file) ⌝ }
-    ensures { λ r. ⌜ r ≡ membersOf (now (file .entry)) s e ⌝ }
-{
-    match s {
-        Members::Recorded => field::is_recorded(file, e),
-        Members::Initial => field::is_initial(file, e),
-        Members::Class(k) => field::of_class(file, e, k),
-        Members::Mode(k, m) => field::of_mode(file, e, k, m),
-        Members::Flagged(k) => field::is_flagged(file, e, k),
-    }
-}
-
-// The events of s.
-pub fn members(file: &[u8], s: Members) -> [u8; 8]
-    requires { ⌜ Sized (now file) ⌝ }
-    ensures { λ r. ⌜ bit r ≡ membersOf (now (file .entry)) s ⌝ }
-{
-    let n = field::events(file);
-    let mut r = row::none();
-    let mut e: usize = 0;
-    while e < 64 {
-        if is_member(file, s, e) {
-            let z = row::with(r, e);
-            r = z;
-        }
-        e = field::following(n, e);
-    }
-    r
-}
-
-// The events of a row that are in s.
-pub fn select(file: &[u8], row: [u8; 8], s: Members) -> [u8; 8]
-    requires { ⌜ Sized (now file) ⌝ }
-    ensures { λ r. ⌜ bit r ≡ intersection (bit row) (membersOf (now (file .entry)) s) ⌝ }
-{
-    let mut r = row::none();
-    let mut e = row::first(row);
-    while e < 64 {
-        if is_member(file, s, e) {
-            let z = row::with(r, e);
-            r = z;
-        }
-        e = row::next(row, e + 1);
-    }
-    r
-}
+ghost use Rattle.recording.specs.Sets.{accessAt, AccessRows, SourcesInto, LinkRows};
 
 // Program order: every initial write before every recorded event, and earlier to later in a thread.
 // Made from the last event of the line to the first: the row of what follows an event is done before its own.
@@ -78,10 +28,7 @@ pub fn program_order(file: &[u8]) -> [[u8; 8]; 64]
 {
     let line = thread::line(file);
     let at = line.at;
-    let mut h = grid::product(
-        members(file, Members::Initial),
-        members(file, Members::Recorded),
-    );
+    let mut h = grid::product(sets::initial(file), sets::recorded(file));
     let mut k = line.len;
     while 0 < k {
         k -= 1;
@@ -224,11 +171,8 @@ pub fn co_steps(file: &[u8], links: [[u8; 8]; 64], location: [[u8; 8]; 64]) -> [
     requires { ⌜ Sized (now file) × (edge links ≡ decode (now file) .link 2) × (edge location ≡ sameLocation (decode (now file))) ⌝ }
     ensures { λ r. ⌜ edge r ≡ coStep (decode (now (file .entry))) ⌝ }
 {
-    let writes = row::and(
-        members(file, Members::Recorded),
-        members(file, Members::Class(2)),
-    );
-    let first = grid::product(members(file, Members::Initial), writes);
+    let classes = sets::sorted(file, sets::recorded(file), 1);
+    let first = grid::product(sets::initial(file), classes[2]);
     grid::or(links, grid::and(first, location))
 }
 

@@ -6,6 +6,7 @@ pub mod field;
 pub mod graph;
 pub mod legal;
 pub mod links;
+pub mod sets;
 pub mod thread;
 
 // The header's numbers: kind, N event records, L locations, M link records.
@@ -20,16 +21,4 @@ pub struct Header {
 pub enum Load {
     Refused(u8),
     Loaded(Header),
-}
-
-// A set of events, by what its members have in common.
-pub enum Members {
-    Recorded,
-    Initial,
-    // of a class
-    Class(usize),
-    // of a class and a mode
-    Mode(usize, usize),
-    // of a class, with flag 1
-    Flagged(usize),
 }

@@ -1,80 +1,159 @@
 -- `sets` meets its contract, place by place. Assumes nothing.
-use mathlib.Core.Path.{_∙_}
-use Rattle.models.specs.Recording.{R, W, F, Racq, Rex, Wrel, Wstrong, Facq, Frel, Fsc, Fld, Fsy}
+use mathlib.Core.Path.{_≡_, refl, ap₂, _∙_}
+use Rattle.relation.specs.Rel.{union}
+use Rattle.models.specs.Recording.{event, acquireFence, releaseFence, R, W, F, Racq, Rex, Wrel, Wstrong, Facq, Frel, Fsc, Fld, Fsy}
 use Rattle.recording.specs.Decode.{decode}
-use Rattle.recording.specs.Sets.{membersOf}
 use Rattle.recording.proofs.Loaded.{loaded-sized}
-use Rattle.recording.proofs.GraphLaws.{mode-among, flag-among}
+use Rattle.recording.proofs.SortLaws.{all-recorded, class-recorded, sorted-class, sorted-writes, sorted-mode, sorted-flag, union-three}
 use borrow.Author.Needs.{needs}
 use Rattle.execution.proofs.sets.Statement.{statement}
 use Rattle.execution.proofs.sets.Tie as tie
 
-members-requires : tie.Need-members-requires
-members-requires c κs = search (needs, loaded-sized)
+initial-requires : tie.Need-initial-requires
+initial-requires c κs = search (needs, loaded-sized)
 
-members-requires-2 : tie.Need-members-requires-2
-members-requires-2 c κs = search (needs, loaded-sized)
+recorded-requires : tie.Need-recorded-requires
+recorded-requires c κs = search (needs, loaded-sized)
 
-members-requires-3 : tie.Need-members-requires-3
-members-requires-3 c κs = search (needs, loaded-sized)
+sorted-requires : tie.Need-sorted-requires
+sorted-requires c κs = search (needs, loaded-sized, all-recorded)
 
-events-requires : tie.Need-events-requires
-events-requires c κs = search needs
+array-copy-out-sorted : tie.Need-array-copy-out-sorted
+array-copy-out-sorted c = search needs
 
-members-requires-4 : tie.Need-members-requires-4
-members-requires-4 c κs = search (needs, loaded-sized)
+sorted-requires-2 : tie.Need-sorted-requires-2
+sorted-requires-2 c κs =
+    let classes = c .before in
+    (loaded-sized _ (classes .before .before .before .before .pre), search needs, class-recorded _ _ (classes .before .recorded .ensures) _ (classes .sorted .ensures) 1 (search needs))
 
-select-requires : tie.Need-select-requires
-select-requires c κs = search (needs, loaded-sized)
+array-copy-out-sorted-2 : tie.Need-array-copy-out-sorted-2
+array-copy-out-sorted-2 c = search needs
 
-select-requires-2 : tie.Need-select-requires-2
-select-requires-2 c κs = search (needs, loaded-sized)
+sorted-requires-3 : tie.Need-sorted-requires-3
+sorted-requires-3 c κs =
+    let classes = c .before .before .before in
+    (loaded-sized _ (classes .before .before .before .before .pre), search needs, class-recorded _ _ (classes .before .recorded .ensures) _ (classes .sorted .ensures) 1 (search needs))
 
-select-requires-3 : tie.Need-select-requires-3
-select-requires-3 c κs = search (needs, loaded-sized)
+array-copy-out-sorted-3 : tie.Need-array-copy-out-sorted-3
+array-copy-out-sorted-3 c = search needs
 
-select-requires-4 : tie.Need-select-requires-4
-select-requires-4 c κs = search (needs, loaded-sized)
+sorted-requires-4 : tie.Need-sorted-requires-4
+sorted-requires-4 c κs =
+    let classes = c .before .before .before .before .before in
+    (loaded-sized _ (classes .before .before .before .before .pre), search needs, class-recorded _ _ (classes .before .recorded .ensures) _ (classes .sorted .ensures) 2 (search needs))
 
-acquire-fences-requires : tie.Need-acquire-fences-requires
-unfolding membersOf
-acquire-fences-requires c κs = (c .before .before .before .before .before .before .before .before .before .before .pre, c .before .before .before .before .before .before .members3 .ensures)
+array-copy-out-sorted-4 : tie.Need-array-copy-out-sorted-4
+array-copy-out-sorted-4 c = search needs
 
-release-fences-requires : tie.Need-release-fences-requires
-unfolding membersOf
-release-fences-requires c κs = (c .before .before .before .before .before .before .before .before .before .before .before .pre, c .before .before .before .before .before .before .before .members3 .ensures)
+sorted-requires-5 : tie.Need-sorted-requires-5
+sorted-requires-5 c κs =
+    let classes = c .before .before .before .before .before .before .before in
+    (loaded-sized _ (classes .before .before .before .before .pre), search needs, class-recorded _ _ (classes .before .recorded .ensures) _ (classes .sorted .ensures) 2 (search needs))
 
-select-requires-5 : tie.Need-select-requires-5
-select-requires-5 c κs = search (needs, loaded-sized)
+array-copy-out-sorted-5 : tie.Need-array-copy-out-sorted-5
+array-copy-out-sorted-5 c = search needs
 
-select-requires-6 : tie.Need-select-requires-6
-select-requires-6 c κs = search (needs, loaded-sized)
+sorted-requires-6 : tie.Need-sorted-requires-6
+sorted-requires-6 c κs =
+    let classes = c .before .before .before .before .before .before .before .before .before in
+    (loaded-sized _ (classes .before .before .before .before .pre), search needs, class-recorded _ _ (classes .before .recorded .ensures) _ (classes .sorted .ensures) 3 (search needs))
 
-select-requires-7 : tie.Need-select-requires-7
-select-requires-7 c κs = loaded-sized _ (c .before .before .before .before .before .before .before .before .before .before .before .before .before .before .pre)
+array-copy-out-or : tie.Need-array-copy-out-or
+array-copy-out-or c = search needs
+
+array-copy-out-or-2 : tie.Need-array-copy-out-or-2
+array-copy-out-or-2 c = search needs
+
+or-requires : tie.Need-or-requires
+or-requires c κs = search needs
+
+or-requires-2 : tie.Need-or-requires-2
+or-requires-2 c κs = search needs
+
+array-copy-out-t27 : tie.Need-array-copy-out-t27
+array-copy-out-t27 c = search needs
+
+array-copy-out-or-3 : tie.Need-array-copy-out-or-3
+array-copy-out-or-3 c = search needs
+
+or-requires-3 : tie.Need-or-requires-3
+or-requires-3 c κs = search needs
+
+array-copy-out-t36 : tie.Need-array-copy-out-t36
+array-copy-out-t36 c = search needs
+
+array-copy-out-t39 : tie.Need-array-copy-out-t39
+array-copy-out-t39 c = search needs
+
+array-copy-out-t42 : tie.Need-array-copy-out-t42
+array-copy-out-t42 c = search needs
+
+array-copy-out-t45 : tie.Need-array-copy-out-t45
+array-copy-out-t45 c = search needs
+
+array-copy-out-t48 : tie.Need-array-copy-out-t48
+array-copy-out-t48 c = search needs
+
+array-copy-out-or-4 : tie.Need-array-copy-out-or-4
+array-copy-out-or-4 c = search needs
+
+or-requires-4 : tie.Need-or-requires-4
+or-requires-4 c κs = search needs
+
+array-copy-out-or-5 : tie.Need-array-copy-out-or-5
+array-copy-out-or-5 c = search needs
+
+or-requires-5 : tie.Need-or-requires-5
+or-requires-5 c κs = search needs
+
+array-copy-out-t59 : tie.Need-array-copy-out-t59
+array-copy-out-t59 c = search needs
+
+array-copy-out-t62 : tie.Need-array-copy-out-t62
+array-copy-out-t62 c = search needs
+
+array-copy-out-t65 : tie.Need-array-copy-out-t65
+array-copy-out-t65 c = search needs
 
 returns : tie.Need-returns
-unfolding decode membersOf
+unfolding event decode union acquireFence releaseFence
 returns c =
-    let reads = c .before .before .before .before .before .before .before .before .before .before .before .before .before .members .ensures in
-    let writes = c .before .before .before .before .before .before .before .before .before .before .before .before .members2 .ensures in
-    let fences = c .before .before .before .before .before .before .before .before .before .before .before .members3 .ensures in
+    let release = c .before .before .before in
+    let acquire = release .before .before in
+    let all-writes = acquire .before .before .before .before .before .before .before in
+    let all = all-writes .before .before .before in
+    let both = all .before in
+    let fences = both .before .before .before in
+    let strong = fences .before .before in
+    let writes = strong .before .before in
+    let exclusive = writes .before .before in
+    let reads = exclusive .before .before in
+    let classes = reads .before .before in
+    let recorded = classes .before .recorded .ensures in
+    let initial = classes .before .before .initial .ensures in
+    let sized = loaded-sized _ (classes .before .before .before .before .pre) in
+    let sorted = classes .sorted .ensures in
+    let class = sorted-class _ _ recorded _ sorted sized in
+    let mode = sorted-mode _ _ recorded _ sorted sized in
+    let flag = sorted-flag _ _ recorded _ sorted sized in
+    let fence = mode 3 (search needs) _ (fences .sorted6 .ensures) in
+    let two = both .or .ensures ∙ ap₂ union (fence 3 (search needs) (search needs)) (fence 4 (search needs) (search needs)) in
     record {
-      events = c .before .before .before .before .before .before .before .before .before .before .events .ensures;
-      initial = c .before .before .before .before .before .before .before .before .before .members4 .ensures;
+      events = all .or2 .ensures ∙ ap₂ union initial recorded;
+      initial = initial;
       named = elim [
-        | R ↦ reads
-        | W ↦ writes
-        | F ↦ fences
-        | Racq ↦ c .before .before .before .before .before .before .before .before .select .ensures ∙ mode-among _ _ _ _ reads
-        | Rex ↦ c .before .before .before .before .before .before .before .select2 .ensures ∙ flag-among _ _ _ reads
-        | Wrel ↦ c .before .before .before .before .before .before .select3 .ensures ∙ mode-among _ _ _ _ writes
-        | Wstrong ↦ c .before .before .before .before .before .select4 .ensures ∙ flag-among _ _ _ writes
-        | Facq ↦ c .before .before .before .before .acquire-fences .ensures
-        | Frel ↦ c .before .before .before .release-fences .ensures
-        | Fsc ↦ c .before .before .select5 .ensures ∙ mode-among _ _ _ _ fences
-        | Fld ↦ c .before .select6 .ensures ∙ mode-among _ _ _ _ fences
-        | Fsy ↦ c .select7 .ensures ∙ mode-among _ _ _ _ fences
+        | R ↦ class 1 (search needs) refl
+        | W ↦ sorted-writes _ _ recorded _ sorted sized _ _ initial (all-writes .or3 .ensures)
+        | F ↦ class 3 (search needs) refl
+        | Racq ↦ mode 1 (search needs) _ (reads .sorted2 .ensures) 1 (search needs) (search needs)
+        | Rex ↦ flag 1 (search needs) _ (exclusive .sorted3 .ensures)
+        | Wrel ↦ mode 2 (search needs) _ (writes .sorted4 .ensures) 2 (search needs) (search needs)
+        | Wstrong ↦ flag 2 (search needs) _ (strong .sorted5 .ensures)
+        | Facq ↦ union-three _ _ _ _ _ _ (acquire .or4 .ensures) (fence 1 (search needs) (search needs)) two
+        | Frel ↦ union-three _ _ _ _ _ _ (release .or5 .ensures) (fence 2 (search needs) (search needs)) two
+        | Fsc ↦ fence 4 (search needs) (search needs)
+        | Fld ↦ fence 5 (search needs) (search needs)
+        | Fsy ↦ fence 6 (search needs) (search needs)
       ];
     }
 
@@ -82,18 +161,36 @@ pub sets-spec : {M : Type 1} → statement M
 sets-spec =
     tie.close
     (tie.spec
-    members-requires
-    members-requires-2
-    members-requires-3
-    events-requires
-    members-requires-4
-    select-requires
-    select-requires-2
-    select-requires-3
-    select-requires-4
-    acquire-fences-requires
-    release-fences-requires
-    select-requires-5
-    select-requires-6
-    select-requires-7
+    initial-requires
+    recorded-requires
+    sorted-requires
+    array-copy-out-sorted
+    sorted-requires-2
+    array-copy-out-sorted-2
+    sorted-requires-3
+    array-copy-out-sorted-3
+    sorted-requires-4
+    array-copy-out-sorted-4
+    sorted-requires-5
+    array-copy-out-sorted-5
+    sorted-requires-6
+    array-copy-out-or
+    array-copy-out-or-2
+    or-requires
+    or-requires-2
+    array-copy-out-t27
+    array-copy-out-or-3
+    or-requires-3
+    array-copy-out-t36
+    array-copy-out-t39
+    array-copy-out-t42
+    array-copy-out-t45
+    array-copy-out-t48
+    array-copy-out-or-4
+    or-requires-4
+    array-copy-out-or-5
+    or-requires-5
+    array-copy-out-t59
+    array-copy-out-t62
+    array-copy-out-t65
     returns)

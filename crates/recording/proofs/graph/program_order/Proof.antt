@@ -6,7 +6,6 @@ use native.Mathlib.Omega.{arith}
 use lib.ListN.{length}
 use Rattle.recording.specs.Layout.{threads, Sized}
 use Rattle.recording.specs.Chains.{threadsSound, Line}
-use Rattle.recording.specs.Sets.{membersOf}
 use Rattle.recording.proofs.ThreadLaws.{Backward, backward-start, placed, backward-keep, backward-with, backward-all}
 use borrow.Author.Needs.{needs}
 use Rattle.recording.proofs.graph.program_order.Statement.{statement}
@@ -21,22 +20,21 @@ abbrev μ-loop : tie.MeasureT-loop
 line-requires : tie.Need-line-requires Inv-loop μ-loop
 line-requires c κs = search needs
 
-members-requires : tie.Need-members-requires Inv-loop μ-loop
-members-requires c κs = search needs
+initial-requires : tie.Need-initial-requires Inv-loop μ-loop
+initial-requires c κs = search needs
 
-members-requires-2 : tie.Need-members-requires-2 Inv-loop μ-loop
-members-requires-2 c κs = search needs
+recorded-requires : tie.Need-recorded-requires Inv-loop μ-loop
+recorded-requires c κs = search needs
 
 product-requires : tie.Need-product-requires Inv-loop μ-loop
 product-requires c κs = search needs
 
 loop-holds : tie.Need-loop-holds Inv-loop μ-loop
-unfolding membersOf
 loop-holds c =
     let pre = c .before .before .before .before .before .before .pre in
     let line = c .before .before .before .before .line .ensures in
     let long : length (c .before .before .before .before .line .result .at) ≡ 64 = search needs in
-    (omega arith, pre .0, pre .1, line, long, backward-start _ _ _ line long _ _ _ (search needs) (c .before .before .members .ensures) (c .before .members2 .ensures) (c .product .ensures))
+    (omega arith, pre .0, pre .1, line, long, backward-start _ _ _ line long _ _ _ (search needs) (c .before .before .initial .ensures) (c .before .recorded .ensures) (c .product .ensures))
 
 sub-k : tie.Need-sub-k Inv-loop μ-loop
 sub-k c = search needs
@@ -118,8 +116,8 @@ program-order-spec =
     Inv-loop
     μ-loop
     line-requires
-    members-requires
-    members-requires-2
+    initial-requires
+    recorded-requires
     product-requires
     loop-holds
     sub-k

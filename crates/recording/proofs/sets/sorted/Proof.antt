@@ -1,0 +1,87 @@
+-- `sets::sorted` meets its contract, member by member. Assumes nothing.
+use mathlib.Core.Logic.{inl, inr}
+use Prim.Native.Nat.{_-_, _<_}
+use native.Mathlib.Omega.{arith}
+use Rattle.relation.specs.Bits.{bit}
+use Rattle.recording.specs.Layout.{Sized}
+use Rattle.recording.specs.Sets.{AllRecorded}
+use Rattle.recording.proofs.SortLaws.{Sorting, sorting-first, sorting-recorded, sorting-with, sorting-keep, sorting-all}
+use borrow.Author.Needs.{needs}
+use Rattle.recording.proofs.sets.sorted.Statement.{statement}
+use Rattle.recording.proofs.sets.sorted.Tie as tie
+
+abbrev Inv-loop : tie.InvT-loop
+Inv-loop file row k h₀ e₀ h e = Sized file × (k < 8) × AllRecorded file (bit row) × Sorting file (bit row) k e h
+
+abbrev μ-loop : tie.MeasureT-loop
+μ-loop file row k h₀ e₀ h e = 64 - e
+
+first-requires : tie.Need-first-requires Inv-loop μ-loop
+first-requires c κs = search needs
+
+loop-holds : tie.Need-loop-holds Inv-loop μ-loop
+loop-holds c = (let pre = c .before .before .pre in (pre .0, pre .1, pre .2, sorting-first _ _ _ _ (c .first .ensures)))
+
+event-byte-requires : tie.Need-event-byte-requires Inv-loop μ-loop
+event-byte-requires c κs =
+    let inv = c .before .loop .inv in
+    let bounds = sorting-recorded _ _ _ (inv .2) _ _ (inv .3) (c .loop-test .taken) in
+    (inv .0, bounds .0, bounds .1, inv .1)
+
+mul-x : tie.Need-mul-x Inv-loop μ-loop
+mul-x c = search needs
+
+array-copy-out-x : tie.Need-array-copy-out-x Inv-loop μ-loop
+array-copy-out-x c = search needs
+
+with-requires : tie.Need-with-requires Inv-loop μ-loop
+with-requires c κs = search needs
+
+mul-h : tie.Need-mul-h Inv-loop μ-loop
+mul-h c = search needs
+
+array-set-from-h : tie.Need-array-set-from-h Inv-loop μ-loop
+array-set-from-h c = search needs
+
+add-next : tie.Need-add-next Inv-loop μ-loop
+add-next c = search needs
+
+next-requires : tie.Need-next-requires Inv-loop μ-loop
+next-requires c κs = search needs
+
+loop-less : tie.Need-loop-less Inv-loop μ-loop
+loop-less c = omega (arith, c .next .ensures .low, c .before .before .before .loop-test .taken)
+
+loop-again : tie.Need-loop-again Inv-loop μ-loop
+loop-again c =
+    let turn = c .before .before .before in
+    let inv = turn .before .loop .inv in
+    let inside = turn .loop-test .taken in
+    let at = c .before .before .event-byte .ensures .0 in
+    elim (c .before .if1 .came) [
+      | inl w ↦ rw (w .3) (inv .0, inv .1, inv .2, sorting-with _ _ _ _ _ (inv .3) inside _ (c .next .ensures) _ at _ (w .0 .taken) (w .2 .ensures))
+      | inr w ↦ rw (w .1) (inv .0, inv .1, inv .2, sorting-keep _ _ _ _ _ (inv .3) inside _ (c .next .ensures) _ at (w .0 .left))
+    ]
+
+returns : tie.Need-returns Inv-loop μ-loop
+returns c = sorting-all _ _ _ _ _ (c .loop-test .left) (c .before .loop .inv .3)
+
+pub sorted-spec : {M : Type 1} → statement M
+sorted-spec =
+    tie.close
+    (tie.spec
+    Inv-loop
+    μ-loop
+    first-requires
+    loop-holds
+    event-byte-requires
+    mul-x
+    array-copy-out-x
+    with-requires
+    mul-h
+    array-set-from-h
+    add-next
+    next-requires
+    loop-less
+    loop-again
+    returns)
