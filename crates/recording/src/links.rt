@@ -17,8 +17,8 @@ ghost use Rattle.recording.specs.Decode.{decode};
 ghost use Rattle.recording.specs.Causes.{allOf, oneSource, linksSoundAt, readable, Chained, Readable};
 ghost use Rattle.recording.specs.Sets.{SourcesInto};
 
-// Whether a row holds one event at most.
-pub fn at_most_one(row: [u8; 8]) -> bool
+// Whether a row, the rf sources of an event, has one member at most.
+pub fn one_source(row: [u8; 8]) -> bool
     ensures { λ x. ⌜ ((r : Recording ℕ) (b : ℕ) → bit row ≡ inverse (r .link 1) b → x ≡ oneSource r b) ⌝ }
 {
     let a = row::first(row);
@@ -40,7 +40,7 @@ pub fn sound_into(file: &[u8], po: [[u8; 8]; 64], b: usize) -> bool
     while 0 < n {
         let m = cursor.at;
         if m == 0 {
-            return at_most_one(rf);
+            return one_source(rf);
         }
         let a = field::link_byte(file, m, 2);
         let after = po[a & 63];
@@ -55,7 +55,7 @@ pub fn sound_into(file: &[u8], po: [[u8; 8]; 64], b: usize) -> bool
         cursor = next;
         n -= 1;
     }
-    at_most_one(rf)
+    one_source(rf)
 }
 
 // The sources of the links of type t into b.

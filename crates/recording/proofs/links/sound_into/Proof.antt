@@ -66,15 +66,15 @@ loop-holds c =
       taken-start _ _ _ _ _ _ (c .before .before .none .ensures) (c .before .links .ensures .0) (c .start .ensures .0),
     )
 
-at-most-one-requires : tie.Need-at-most-one-requires Inv-loop μ-loop
-at-most-one-requires c κs = search needs
+one-source-requires : tie.Need-one-source-requires Inv-loop μ-loop
+one-source-requires c κs = search needs
 
 returns : tie.Need-returns Inv-loop μ-loop
 unfolding linksSoundAt
 returns c =
     let inv = c .before .before .before .loop .inv in
     let done = ap (follow _ _ _) (c .before .if1 .taken) ∙ follow-end _ _ _ in
-    and-yes _ _ _ _ (along-done _ _ _ _ _ _ (inv .5) done) refl (c .at-most-one .ensures _ _ (taken-done _ _ _ _ _ _ (inv .2) (inv .3) (inv .6) done))
+    and-yes _ _ _ _ (along-done _ _ _ _ _ _ (inv .5) done) refl (c .one-source .ensures _ _ (taken-done _ _ _ _ _ _ (inv .2) (inv .3) (inv .6) done))
 
 link-byte-requires : tie.Need-link-byte-requires Inv-loop μ-loop
 link-byte-requires c κs =
@@ -176,15 +176,15 @@ loop-again c =
       )
     ]
 
-at-most-one-requires-2 : tie.Need-at-most-one-requires-2 Inv-loop μ-loop
-at-most-one-requires-2 c κs = search needs
+one-source-requires-2 : tie.Need-one-source-requires-2 Inv-loop μ-loop
+one-source-requires-2 c κs = search needs
 
 returns-3 : tie.Need-returns-3 Inv-loop μ-loop
 unfolding linksSoundAt
 returns-3 c =
     let inv = c .before .before .loop .inv in
     let done = follow-none _ _ _ _ (c .before .loop-test .left) in
-    and-yes _ _ _ _ (along-done _ _ _ _ _ _ (inv .5) done) refl (c .at-most-one2 .ensures _ _ (taken-done _ _ _ _ _ _ (inv .2) (inv .3) (inv .6) done))
+    and-yes _ _ _ _ (along-done _ _ _ _ _ _ (inv .5) done) refl (c .one-source2 .ensures _ _ (taken-done _ _ _ _ _ _ (inv .2) (inv .3) (inv .6) done))
 
 pub sound-into-spec : {M : Type 1} → statement M
 sound-into-spec =
@@ -201,7 +201,7 @@ sound-into-spec =
     sub-start
     start-requires
     loop-holds
-    at-most-one-requires
+    one-source-requires
     returns
     link-byte-requires
     mul-after
@@ -215,5 +215,5 @@ sound-into-spec =
     sub-n
     loop-less
     loop-again
-    at-most-one-requires-2
+    one-source-requires-2
     returns-3)

@@ -1,12 +1,12 @@
--- `links::at_most_one` meets its contract: no member is left without the least. Assumes nothing.
+-- `links::one_source` meets its contract: no member is left without the least. Assumes nothing.
 use mathlib.Core.Path.{ap, _∙_}
 use Prim.Native.Nat.{ℕ}
 use native.Mathlib.Omega.{arith}
 use lib.Dec.{eqb}
 use Rattle.recording.proofs.CauseLaws.{alone, alone-with}
 use borrow.Author.Needs.{needs}
-use Rattle.recording.proofs.links.at_most_one.Statement.{statement}
-use Rattle.recording.proofs.links.at_most_one.Tie as tie
+use Rattle.recording.proofs.links.one_source.Statement.{statement}
+use Rattle.recording.proofs.links.one_source.Tie as tie
 
 first-requires : tie.Need-first-requires
 first-requires c κs = search needs
@@ -25,6 +25,6 @@ returns-2 c r b e =
     ap (λ (y : ℕ). eqb y 64) (c .first2 .ensures)
     ∙ alone-with r b _ _ _ e (c .before .before .before .first .ensures) (c .before .before .if1 .left) (c .before .without .ensures)
 
-pub at-most-one-spec : {M : Type 1} → statement M
-at-most-one-spec =
+pub one-source-spec : {M : Type 1} → statement M
+one-source-spec =
     tie.close (tie.spec first-requires returns without-requires first-requires-2 returns-2)
