@@ -35,7 +35,7 @@ pub fn judge(sets: Sets, relations: Relations) -> Verdict
     let steps = hb::steps(sets, relations, poloc, rfe, rfi);
     let hb = grid::closure(steps);
     let eco = hb::eco(sets[base::EVENTS], rf, co, fr);
-    let returning = grid::diagonal(grid::then(hb, grid::optional(eco, sets[base::EVENTS])));
+    let returning = grid::returning(hb, grid::inverse(grid::optional(eco, sets[base::EVENTS])));
     let closing = grid::or(steps, grid::minus(eco, grid::identity(row::all())));
     let incoherent = shown::coherence(returning, steps, closing);
     if incoherent.len != 0 {

@@ -1,22 +1,21 @@
 -- Laws of the causes of refusal. Assumes nothing.
 use mathlib.Core.Path.{_≡_, refl, sym, ap, ap₂, subst, _∙_}
 use mathlib.Core.Bool.{Bool, true, false, not, _&&_, _||_, false≢true}
-use mathlib.Core.List.{List, [], _∷_, _++_}
-use mathlib.Core.Logic.{_⊎_, inl, inr}
+use mathlib.Core.List.{List, [], _∷_}
 use Prim.Native.Nat.{ℕ, zero, suc, _+_, _-_, _*_, _<_, _≤_}
 use native.Mathlib.Omega.{arith}
 use native.Mathlib.Decide.{ℕ-discrete, decLt}
-use borrow.Author.Tests.{eq-eqb, ne-eqb, eqb-true, eqb-false, lt-ltb, le-ltb, ltb-true, ltb-false, not-true, not-false}
+use borrow.Author.Tests.{eq-eqb, ne-eqb, eqb-true, lt-ltb, le-ltb, ltb-false, not-false}
 use lib.Dec.{eqb, leb, ltb}
-use lib.ListN.{length, getD}
-use Rattle.relation.specs.Rel.{Set, Rel, single, difference, inverse, some, least, below, nodes, diagonal}
-use Rattle.relation.proofs.Meaning.{Mem, and-left, and-right, and-both, or-either, some-sound, some-complete, mem-below, below-mem}
+use lib.ListN.{length}
+use Rattle.relation.specs.Rel.{Set, single, difference, inverse, some, least, nodes}
+use Rattle.relation.proofs.Meaning.{some-least, and-left, and-right, and-both, some-sound, some-complete, mem-below, below-mem}
 use Rattle.relation.proofs.SetLaws.{least-is, least-lt}
 use Rattle.models.specs.Recording.{Recording, event, ofClass, flagged}
 use Rattle.models.specs.Graph.{base}
 use Rattle.models.specs.Rules.{first}
-use Rattle.recording.specs.Layout.{kind, events, locations, links, linkByte, isSource, kindKnown, mostEvents, mostLocations, mostLinks, fullLength, Sized}
-use Rattle.recording.specs.Chains.{each, among, follow, chain, met, fresh, pushed, onceEach, nextOf, startOf, nextLink, firstLink, linksInto, threadsSound, linksSound}
+use Rattle.recording.specs.Layout.{kind, events, locations, links, linkByte, isSource, kindKnown, mostEvents, mostLinks, fullLength, Sized}
+use Rattle.recording.specs.Chains.{each, among, chain, met, fresh, pushed, onceEach, nextOf, startOf, nextLink, firstLink, linksInto, linksSound}
 use Rattle.recording.specs.Decode.{decode}
 use Rattle.recording.specs.Causes.{allOf, within, readable, Chained, Readable, rfLegal, coLegal, rmwLegal, fromRead, dataLegal, addrLegal, ctrlLegal, casdepLegal, linkLegal, linkSound, oneSource, linksSoundAt, pairedAt, headerOver, eventLegal, tooShort, kindUnknown, overLimit, wrongLength, badEvent, badThreads, badChains, badLink, coRing, unpaired, headerCauses, bodyCauses, refusal}
 use Rattle.recording.specs.Load.{headerOf, answer, loadOf, numberOf, causeFor}
@@ -25,20 +24,6 @@ use Rattle.recording.specs.declared.Load.{Load}
 use Rattle.recording.specs.declared.Load.the-variants.{Refused, Loaded}
 use Rattle.recording.proofs.FieldLaws.{event-small}
 use Rattle.recording.proofs.ChainLaws.{fresh-append, each-at}
-
--- A number below 64 is in the set exactly when the least member is below 64.
-pub some-least : (s : Set) → ltb (least 64 s) 64 ≡ some nodes s
-some-least s = go (some nodes s) refl
-  where
-    go : (b : Bool) → some nodes s ≡ b → ltb (least 64 s) 64 ≡ some nodes s
-    go true p =
-        let (x, m, h) = some-sound nodes s p in
-        lt-ltb (least 64 s) 64 (omega (arith, least-lt 64 s x (below-mem 64 x m) h, below-mem 64 x m)) ∙ sym p
-    go false p =
-        elim (decLt (least 64 s) 64) [
-          | yes h ↦ absurd (false≢true (sym p ∙ some-complete nodes s (least 64 s) (mem-below 64 (least 64 s) h) (least-is 64 s .member h)))
-          | no h ↦ le-ltb (least 64 s) 64 (omega (arith, h)) ∙ sym p
-        ]
 
 -- The first cause that applies.
 pub first-here : (n : ℕ) (b : Bool) (bs : List Bool) → b ≡ true → n ≡ first n (b ∷ bs)

@@ -2,7 +2,7 @@
 use mathlib.Core.Path.{_≡_, refl, sym, ap, ap₂, subst, _∙_, fun-ext}
 use mathlib.Core.List.{List, [], _∷_}
 use mathlib.Core.Bool.{Bool, true, false, not, _&&_, _||_}
-use Prim.Native.Nat.{ℕ, zero, suc, _+_, _-_, _*_, _<_, _≤_}
+use Prim.Native.Nat.{ℕ, zero, suc, _+_, _*_, _<_, _≤_}
 use native.Mathlib.Numerals.{add-one}
 use native.Mathlib.Omega.{arith}
 use native.Mathlib.Decide.{ℕ-discrete, decLt}
@@ -11,9 +11,10 @@ use borrow.Author.Tests.{eq-eqb, ne-eqb, lt-ltb, le-ltb}
 use lib.Dec.{eqb, ltb}
 use lib.ListN.{length, getD, set, replicate, length-set, List·getD-eq-default}
 use lib.Seq.{getD-set-same, getD-set-other}
-use Rattle.relation.specs.Rel.{Set, Rel, empty, none, single, given, pair, union, intersection, difference, either, both, minus, inverse, identity, product, from, into, some, image, chain, through, plus, optional, star, diagonal, below, nodes, least, Next}
+use Rattle.relation.specs.Rel.{Set, Rel, empty, none, single, given, pair, union, intersection, difference, either, inverse, identity, product, from, some, image, chain, through, plus, diagonal, below, nodes, least, Next}
 use Rattle.relation.specs.Bits.{bit, edge}
 use Rattle.relation.proofs.ByteLaws.{bit-none, bit-out, on-zero}
+use Rattle.relation.proofs.Meaning.{some-least}
 use Rattle.relation.proofs.SetLaws.{or-comm, or-false, or-true, and-false, and-true, Least, least-is, skip-to}
 
 -- A row that is not there holds nothing.
@@ -373,3 +374,17 @@ product-no s t m p = fun-ext (λ j. ap (λ (b : Bool). b && t j) (sym p))
 pub product-out : (s t : Set) (m : ℕ) → s m ≡ false → product s t m ≡ empty
 unfolding none
 product-out s t m p = sym (product-no s t m p)
+
+-- What two grids lead back to, where the second is the other way round: the rows of an event share a member.
+pub returning-at : (a b : List (List ℕ)) (i k : ℕ) (m : Set) → m ≡ intersection (bit (getD a i [])) (bit (getD b i [])) → k ≡ least 64 m
+    → ltb k 64 ≡ diagonal (chain nodes (edge a) (inverse (edge b))) i
+unfolding diagonal chain image inverse edge intersection
+returning-at a b i k m p q = ap (λ (x : ℕ). ltb x 64) q ∙ some-least m ∙ ap (some nodes) p
+
+pub returning-out : (a b : List (List ℕ)) → length a ≡ 64 → (i : ℕ) → 64 ≤ i → diagonal (chain nodes (edge a) (inverse (edge b))) i ≡ false
+unfolding diagonal chain empty
+returning-out a b l i h = ap (λ (s : Set). s i) (image-out nodes (edge a i) (inverse (edge b)) (edge-out a l i h))
+
+pub returning-by : (r b e : Rel) → b ≡ inverse e → diagonal (chain nodes r (inverse b)) ≡ diagonal (chain nodes r e)
+unfolding inverse
+returning-by r b e p = ap (λ (c : Rel). diagonal (chain nodes r (inverse c))) p

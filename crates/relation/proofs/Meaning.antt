@@ -1,13 +1,16 @@
 -- What the computed operators mean: `some` is "there is an event", `chain` is "there is an event between",
 -- `plus` is one or more steps. Assumes nothing.
-use mathlib.Core.Path.{_≡_, refl, sym, ap, subst, _∙_}
+use mathlib.Core.Path.{_≡_, refl, sym, subst, _∙_}
 use mathlib.Core.List.{List, [], _∷_}
 use mathlib.Core.Bool.{Bool, true, false, _&&_, _||_, false≢true}
 use mathlib.Core.Logic.{_⊎_, inl, inr}
 use Prim.Native.Nat.{ℕ, zero, suc, _<_}
 use native.Mathlib.Omega.{arith}
-use native.Mathlib.Decide.{ℕ-discrete}
-use Rattle.relation.specs.Rel.{Set, Rel, some, image, chain, through, plus, below}
+use native.Mathlib.Decide.{ℕ-discrete, decLt}
+use borrow.Author.Tests.{lt-ltb, le-ltb}
+use lib.Dec.{ltb}
+use Rattle.relation.specs.Rel.{Set, Rel, some, image, chain, through, plus, least, below, nodes}
+use Rattle.relation.proofs.SetLaws.{least-is, least-lt}
 
 -- An event of a list.
 pub data Mem (x : ℕ) : List ℕ → Type 0 where
@@ -71,6 +74,20 @@ pub below-mem : (n x : ℕ) → Mem x (below n) → x < n
 unfolding below
 below-mem (suc n) x here = omega arith
 below-mem (suc n) x (there m) = let h = below-mem n x m in omega arith
+
+-- A number below 64 is in the set exactly when the least member is below 64.
+pub some-least : (s : Set) → ltb (least 64 s) 64 ≡ some nodes s
+some-least s = go (some nodes s) refl
+  where
+    go : (b : Bool) → some nodes s ≡ b → ltb (least 64 s) 64 ≡ some nodes s
+    go true p =
+        let (x, m, h) = some-sound nodes s p in
+        lt-ltb (least 64 s) 64 (omega (arith, least-lt 64 s x (below-mem 64 x m) h, below-mem 64 x m)) ∙ sym p
+    go false p =
+        elim (decLt (least 64 s) 64) [
+          | yes h ↦ absurd (false≢true (sym p ∙ some-complete nodes s (least 64 s) (mem-below 64 (least 64 s) h) (least-is 64 s .member h)))
+          | no h ↦ le-ltb (least 64 s) 64 (omega (arith, h)) ∙ sym p
+        ]
 
 -- `image` and `chain`: there is an event between.
 pub image-sound : (es : List ℕ) (s : Set) (r : Rel) (y : ℕ) → image es s r y ≡ true → (x : ℕ) × Mem x es × (s x ≡ true) × (r x y ≡ true)

@@ -9,7 +9,7 @@ use native.Mathlib.Omega.{arith}
 use native.Mathlib.Decide.{ℕ-discrete, decLt}
 use borrow.Author.Count.{below-more}
 use borrow.Author.Tests.{lt-ltb, le-ltb}
-use lib.Dec.{eqb, ltb}
+use lib.Dec.{eqb}
 use lib.ListN.{length, getD, set, take, length-set, List·getD-eq-default}
 use lib.Seq.{getD-set-same, getD-set-other, getD-take, length-take-le}
 use Rattle.relation.specs.Rel.{Set, Rel, empty, single, union, intersection, inverse, identity, image, chain, plus, either, diagonal, least, nodes}
@@ -18,8 +18,8 @@ use Rattle.relation.specs.Ring.{under, power, after, closed, Ring, RingO
 use Rattle.relation.proofs.ByteLaws.{bit-out}
 use Rattle.relation.proofs.SetLaws.{least-is, least-lt}
 use Rattle.relation.proofs.GridLaws.{Rows, rows-set}
-use Rattle.relation.proofs.Meaning.{and-left, and-right, and-both, or-either, mem-below, below-mem, image-sound, image-complete, chain-sound, chain-complete, plus-sound}
-use Rattle.relation.proofs.Walks.{Inside, Walk, stay, go, counted, walk-join, steps-walk, power-sound, power-complete, shorten, walk-zero}
+use Rattle.relation.proofs.Meaning.{and-left, and-right, and-both, or-either, mem-below, below-mem, image-sound, chain-sound, chain-complete, plus-sound}
+use Rattle.relation.proofs.Walks.{Inside, Walk, stay, go, walk-join, steps-walk, power-sound, power-complete, shorten, walk-zero}
 
 -- The row of one event is where every walk from it starts.
 pub power-zero : (r : Rel) (s : ℕ) (t u : Set) → s < 64 → t ≡ empty → u ≡ union t (single s) → u ≡ power zero r s
@@ -30,15 +30,6 @@ power-zero r s t u h p e =
 pub power-suc : (r : Rel) (s k : ℕ) (t u : Set) → t ≡ power k r s → u ≡ image nodes t r → u ≡ power (k + 1) r s
 unfolding power chain
 power-suc r s k t u p e = rw (add-one k) (e ∙ ap (λ (f : Set). image nodes f r) p)
-
--- No event is related to itself where the diagonal has no least member.
-pub no-diagonal : (g : List (List ℕ)) → 64 ≤ least 64 (diagonal (edge g)) → (t : ℕ) → edge g t t ≡ false
-unfolding diagonal edge
-no-diagonal g h t =
-    elim (decLt t 64) [
-      | yes p ↦ least-is 64 (diagonal (edge g)) .smaller t (omega arith)
-      | no p ↦ bit-out (getD g t []) t (omega (arith, p))
-    ]
 
 -- The least of the events of s from which r leads to y.
 pub record Picked (s : Set) (r : Rel) (y k : ℕ) : Type 0 where
@@ -398,11 +389,16 @@ pub reached-more : (r e : Rel) (s : ℕ) (h : List (List ℕ)) (k : ℕ) (x : Li
 unfolding reached
 reached-more r e s h k x w p q = rows-set (reached r s) e h k x w p q
 
+-- A closing relation may be given the other way round.
+pub shortest-by : (r b e : Rel) (n s : ℕ) → b ≡ inverse e → Shortest r (inverse b) n s → Shortest r e n s
+unfolding inverse
+shortest-by r b e n s p w = subst (λ (c : Rel). Shortest r (inverse c) n s) p w
+
 -- One round of `shortest`: an event that n steps and e bring back to itself, or none.
-module _ (r e p : Rel) (c : List (List ℕ)) (d : Set) (n s : ℕ) (at-n : p ≡ power n r) (closing : edge c ≡ chain nodes p e)
-    (on : d ≡ diagonal (edge c)) (first : s ≡ least 64 d) where
-  round : (t : ℕ) → edge c t t ≡ chain nodes (power n r) e t t
-  round t = ap (λ (f : Rel). f t t) (closing ∙ ap (λ (f : Rel). chain nodes f e) at-n)
+module _ (r e p : Rel) (x : List ℕ) (n s : ℕ) (at-n : p ≡ power n r) (returning : bit x ≡ diagonal (chain nodes p e))
+    (first : s ≡ least 64 (bit x)) where
+  on : bit x ≡ diagonal (chain nodes (power n r) e)
+  on = returning ∙ ap (λ (f : Rel). diagonal (chain nodes f e)) at-n
 
   pub round-found : n < 64 → s < 64 → ((m : ℕ) → m < n → (t : ℕ) → chain nodes (power m r) e t t ≡ false) → Shortest r e n s
   unfolding diagonal
@@ -410,12 +406,15 @@ module _ (r e p : Rel) (c : List (List ℕ)) (d : Set) (n s : ℕ) (at-n : p ≡
       record {
         bound = omega arith;
         inside = λ q. g;
-        closes = λ q. sym (round s) ∙ ap (λ (f : Set). f s) (sym on) ∙ rw first (least-is 64 d .member (omega arith));
+        closes = λ q. ap (λ (f : Set). f s) (sym on) ∙ rw first (least-is 64 (bit x) .member (omega arith));
         fewest = fewer;
       }
 
   pub round-none : 64 ≤ s → (t : ℕ) → chain nodes (power n r) e t t ≡ false
-  round-none g t = sym (round t) ∙ no-diagonal c (subst (λ (f : Set). 64 ≤ least 64 f) on (rw first at g)) t
+  unfolding diagonal
+  round-none g t =
+      ap (λ (f : Set). f t) (sym on)
+      ∙ elim (decLt t 64) [ yes h ↦ least-is 64 (bit x) .smaller t (omega (arith, first, g, h)) | no h ↦ bit-out x t (omega (arith, h)) ]
 
 -- The place of a smallest, one event more at a time.
 pub smallest-one : (at : List ℕ) → SmallestAt at 1 0

@@ -243,6 +243,24 @@ pub fn diagonal(g: [[u8; 8]; 64]) -> [u8; 8]
     r
 }
 
+// The events that a and then the inverse of b lead back to: their rows of a and b share a member.
+pub fn returning(a: [[u8; 8]; 64], b: [[u8; 8]; 64]) -> [u8; 8]
+    ensures { λ r. ⌜ bit r ≡ diagonal (chain nodes (edge a) (inverse (edge b))) ⌝ }
+{
+    let mut r = row::none();
+    let mut i: usize = 0;
+    while i < 64 {
+        let x = a[i];
+        let y = b[i];
+        if row::first(row::and(x, y)) < 64 {
+            let z = row::with(r, i);
+            r = z;
+        }
+        i += 1;
+    }
+    r
+}
+
 // g, or the identity on s.
 pub fn optional(g: [[u8; 8]; 64], s: [u8; 8]) -> [[u8; 8]; 64]
     ensures { λ r. ⌜ edge r ≡ optional (bit s) (edge g) ⌝ }

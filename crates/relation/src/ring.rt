@@ -22,12 +22,11 @@ pub struct Start {
 pub fn shortest(g: [[u8; 8]; 64], e: [[u8; 8]; 64]) -> Start
     ensures { λ r. ⌜ Shortest (edge g) (edge e) (r .steps) (r .event) ⌝ }
 {
+    let back = grid::inverse(e);
     let mut p = grid::identity(row::all());
     let mut n: usize = 0;
     while n < 64 {
-        let c = grid::then(p, e);
-        let d = grid::diagonal(c);
-        let s = row::first(d);
+        let s = row::first(grid::returning(p, back));
         if s < 64 {
             return Start { steps: n, event: s };
         }

@@ -2,6 +2,7 @@
 use mathlib.Core.Path.{_≡_, refl, ap, ap₂, subst, _∙_}
 use Rattle.relation.specs.Rel.{either, diagonal, nodes}
 use Rattle.relation.specs.Bits.{bit, edge}
+use Rattle.relation.proofs.GridLaws.{returning-by}
 use Rattle.relation.proofs.Walks.{Inside, edge-inside}
 use Rattle.models.specs.Graph.{Base}
 use Rattle.models.specs.Term.{eval, fr, frₑ}
@@ -64,14 +65,15 @@ eco-is c = c .eco .ensures (base (from-eco c)) refl refl refl (fr-is (c .before 
 inside-eco : (c : tie.After-eco) → Inside (edge (c .eco .result))
 inside-eco c = edge-inside _ (search needs)
 
-returning-is : (c : tie.After-diagonal) → bit (c .diagonal .result) ≡ diagonal (eval nodes (IMM .coherent) (base (from-eco (c .before .before .before .before))))
+returning-is : (c : tie.After-returning) → bit (c .returning .result) ≡ diagonal (eval nodes (IMM .coherent) (base (from-eco (c .before .before .before .before))))
 unfolding baseOf
 returning-is c =
     let after-eco = c .before .before .before .before in
-    c .diagonal .ensures
+    c .returning .ensures
+    ∙ returning-by _ _ _ (c .before .inverse .ensures)
     ∙ ap diagonal
     (holds (base (from-eco after-eco)) (IMM .coherent)
-    (is-then (given (hb-is (after-eco .before .before))) (is-opt refl (given (eco-is after-eco)) (c .before .before .optional .ensures)) (c .before .then .ensures)))
+    (is-then (given (hb-is (after-eco .before .before))) (is-opt refl (given (eco-is after-eco)) (c .before .before .optional .ensures)) refl))
 
 closing-is : (c : tie.After-or) → edge (c .or .result) ≡ closing (base (from-eco (c .before .before .before .before .before .before .before .before)))
 unfolding closing
@@ -157,11 +159,11 @@ array-copy-out-optional c = search needs
 optional-requires : tie.Need-optional-requires
 optional-requires c κs = search needs
 
-then-requires : tie.Need-then-requires
-then-requires c κs = search needs
+inverse-requires : tie.Need-inverse-requires
+inverse-requires c κs = search needs
 
-diagonal-requires : tie.Need-diagonal-requires
-diagonal-requires c κs = search needs
+returning-requires : tie.Need-returning-requires
+returning-requires c κs = search needs
 
 all-requires : tie.Need-all-requires
 all-requires c κs = search needs
@@ -234,8 +236,8 @@ judge-spec =
     eco-requires
     array-copy-out-optional
     optional-requires
-    then-requires
-    diagonal-requires
+    inverse-requires
+    returning-requires
     all-requires
     identity-requires
     minus-requires-2

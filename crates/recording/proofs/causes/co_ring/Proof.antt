@@ -3,7 +3,7 @@ use mathlib.Core.Path.{ap, _∙_}
 use Prim.Native.Nat.{ℕ}
 use lib.Dec.{ltb}
 use Rattle.relation.specs.Rel.{least, diagonal}
-use Rattle.recording.proofs.CauseLaws.{some-least}
+use Rattle.relation.proofs.Meaning.{some-least}
 use Rattle.recording.proofs.CoherenceLaws.{co-ring-is}
 use borrow.Author.Needs.{needs}
 use Rattle.recording.proofs.causes.co_ring.Statement.{statement}

@@ -1,22 +1,25 @@
 -- `ring::shortest` meets its contract: fewer steps are tried first. Assumes nothing.
-use mathlib.Core.Path.{_≡_, sym, ap, _∙_}
+use mathlib.Core.Path.{_≡_}
 use mathlib.Core.Bool.{false}
 use Prim.Native.Nat.{ℕ, _-_, _≤_, _<_}
 use native.Mathlib.Omega.{arith}
 use borrow.Author.Count.{below-none, below-more}
-use Rattle.relation.specs.Rel.{Rel, chain, nodes}
+use Rattle.relation.specs.Rel.{inverse, chain, nodes}
 use Rattle.relation.specs.Bits.{edge}
 use Rattle.relation.specs.Ring.{power}
-use Rattle.relation.proofs.RingLaws.{power-identity, power-then, round-found, round-none}
+use Rattle.relation.proofs.RingLaws.{power-identity, power-then, shortest-by, round-found, round-none}
 use borrow.Author.Needs.{needs}
 use Rattle.relation.proofs.ring.shortest.Statement.{statement}
 use Rattle.relation.proofs.ring.shortest.Tie as tie
 
 abbrev Inv-loop : tie.InvT-loop
-Inv-loop g e p₀ n₀ p n = (n ≤ 64) × (edge p ≡ power n (edge g)) × ((m : ℕ) → m < n → (t : ℕ) → chain nodes (power m (edge g)) (edge e) t t ≡ false)
+Inv-loop g back p₀ n₀ p n = (n ≤ 64) × (edge p ≡ power n (edge g)) × ((m : ℕ) → m < n → (t : ℕ) → chain nodes (power m (edge g)) (inverse (edge back)) t t ≡ false)
 
 abbrev μ-loop : tie.MeasureT-loop
-μ-loop g e p₀ n₀ p n = 64 - n
+μ-loop g back p₀ n₀ p n = 64 - n
+
+inverse-requires : tie.Need-inverse-requires Inv-loop μ-loop
+inverse-requires c κs = search needs
 
 all-requires : tie.Need-all-requires Inv-loop μ-loop
 all-requires c κs = search needs
@@ -27,24 +30,21 @@ identity-requires c κs = search needs
 loop-holds : tie.Need-loop-holds Inv-loop μ-loop
 loop-holds c = (search needs, power-identity _ _ _ (c .before .all .ensures) (c .identity .ensures), below-none _)
 
-then-requires : tie.Need-then-requires Inv-loop μ-loop
-then-requires c κs = search needs
-
-diagonal-requires : tie.Need-diagonal-requires Inv-loop μ-loop
-diagonal-requires c κs = search needs
+returning-requires : tie.Need-returning-requires Inv-loop μ-loop
+returning-requires c κs = search needs
 
 first-requires : tie.Need-first-requires Inv-loop μ-loop
 first-requires c κs = search needs
 
 returns : tie.Need-returns Inv-loop μ-loop
 returns c =
-    let turn = c .before .before .before .before in
+    let turn = c .before .before .before in
     let inv = turn .before .loop .inv in
-    round-found _ _ _ _ _ _ _ (inv .1) (c .before .before .before .then .ensures) (c .before .before .diagonal .ensures) (c .before .first .ensures)
-    (turn .loop-test .taken) (c .if1 .taken) (inv .2)
+    shortest-by _ _ _ _ _ (turn .before .before .before .before .inverse .ensures)
+    (round-found _ _ _ _ _ _ (inv .1) (c .before .before .returning .ensures) (c .before .first .ensures) (turn .loop-test .taken) (c .if1 .taken) (inv .2))
 
-then-requires-2 : tie.Need-then-requires-2 Inv-loop μ-loop
-then-requires-2 c κs = search needs
+then-requires : tie.Need-then-requires Inv-loop μ-loop
+then-requires c κs = search needs
 
 add-n : tie.Need-add-n Inv-loop μ-loop
 add-n c = search needs
@@ -54,18 +54,19 @@ loop-less c = search needs
 
 loop-again : tie.Need-loop-again Inv-loop μ-loop
 loop-again c =
-    let turn = c .before .before .before .before .before in
+    let turn = c .before .before .before .before in
     let inv = turn .before .loop .inv in (
       search needs,
-      power-then _ _ _ _ (inv .1) (c .then2 .ensures),
+      power-then _ _ _ _ (inv .1) (c .then .ensures),
       below-more _ _ (inv .2)
-          (round-none _ _ _ _ _ _ _ (inv .1) (c .before .before .before .before .then .ensures) (c .before .before .before .diagonal .ensures) (c .before .before .first .ensures) (c .before .if1 .left)),
+          (round-none _ _ _ _ _ _ (inv .1) (c .before .before .before .returning .ensures) (c .before .before .first .ensures) (c .before .if1 .left)),
     )
 
 returns-2 : tie.Need-returns-2 Inv-loop μ-loop
 returns-2 c =
     let inv = c .before .loop .inv in
-    record { bound = search needs; inside = λ h. absurd (omega arith); closes = λ h. absurd (omega arith); fewest = λ m h. inv .2 m (omega arith) }
+    shortest-by _ _ _ _ _ (c .before .before .before .before .inverse .ensures)
+    (record { bound = search needs; inside = λ h. absurd (omega arith); closes = λ h. absurd (omega arith); fewest = λ m h. inv .2 m (omega arith) })
 
 pub shortest-spec : {M : Type 1} → statement M
 shortest-spec =
@@ -73,14 +74,14 @@ shortest-spec =
     (tie.spec
     Inv-loop
     μ-loop
+    inverse-requires
     all-requires
     identity-requires
     loop-holds
-    then-requires
-    diagonal-requires
+    returning-requires
     first-requires
     returns
-    then-requires-2
+    then-requires
     add-n
     loop-less
     loop-again

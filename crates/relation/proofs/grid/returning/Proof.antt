@@ -1,0 +1,87 @@
+-- `grid::returning` meets its contract, event by event. Assumes nothing.
+use mathlib.Core.Path.{_≡_, sym, _∙_}
+use mathlib.Core.Logic.{inl, inr}
+use Prim.Native.Nat.{_-_, _≤_}
+use borrow.Author.Tests.{lt-ltb, le-ltb}
+use lib.ListN.{length}
+use Rattle.relation.specs.Rel.{diagonal, chain, inverse, nodes}
+use Rattle.relation.specs.Bits.{bit, edge}
+use Rattle.relation.proofs.SetLaws.{upto, upto-none, upto-with, upto-keep, upto-done}
+use Rattle.relation.proofs.GridLaws.{returning-at, returning-out}
+use borrow.Author.Needs.{needs}
+use Rattle.relation.proofs.grid.returning.Statement.{statement}
+use Rattle.relation.proofs.grid.returning.Tie as tie
+
+abbrev Inv-loop : tie.InvT-loop
+Inv-loop a b r₀ i₀ r i = (i ≤ 64) × (bit r ≡ upto i (diagonal (chain nodes (edge a) (inverse (edge b))))) × (length a ≡ 64)
+
+abbrev μ-loop : tie.MeasureT-loop
+μ-loop a b r₀ i₀ r i = 64 - i
+
+none-requires : tie.Need-none-requires Inv-loop μ-loop
+none-requires c κs = search needs
+
+loop-holds : tie.Need-loop-holds Inv-loop μ-loop
+loop-holds c = (search needs, c .none .ensures ∙ upto-none _, search needs)
+
+mul-x : tie.Need-mul-x Inv-loop μ-loop
+mul-x c = search needs
+
+array-copy-out-x : tie.Need-array-copy-out-x Inv-loop μ-loop
+array-copy-out-x c = search needs
+
+mul-y : tie.Need-mul-y Inv-loop μ-loop
+mul-y c = search needs
+
+array-copy-out-y : tie.Need-array-copy-out-y Inv-loop μ-loop
+array-copy-out-y c = search needs
+
+and-requires : tie.Need-and-requires Inv-loop μ-loop
+and-requires c κs = search needs
+
+first-requires : tie.Need-first-requires Inv-loop μ-loop
+first-requires c κs = search needs
+
+with-requires : tie.Need-with-requires Inv-loop μ-loop
+with-requires c κs = search needs
+
+add-i : tie.Need-add-i Inv-loop μ-loop
+add-i c = search needs
+
+loop-less : tie.Need-loop-less Inv-loop μ-loop
+loop-less c = search needs
+
+loop-again : tie.Need-loop-again Inv-loop μ-loop
+loop-again c =
+    let turn = c .before .before .before .before .before in
+    let inv = turn .before .loop .inv in
+    let test = returning-at _ _ _ _ _ (c .before .before .and .ensures) (c .before .first .ensures) in
+    elim (c .if1 .came) [
+      | inl w ↦ rw (w .2) (search needs, w .1 .ensures ∙ upto-with _ _ _ (inv .1) (sym test ∙ lt-ltb _ 64 (w .0 .taken)), inv .2)
+      | inr w ↦ rw (w .1) (search needs, upto-keep _ _ _ (inv .1) (sym test ∙ le-ltb _ 64 (w .0 .left)), inv .2)
+    ]
+
+returns : tie.Need-returns Inv-loop μ-loop
+returns c =
+    let inv = c .before .loop .inv in
+    upto-done _ 64 _ _ (c .loop-test .left) (inv .1) (λ m h. returning-out _ _ (inv .2) m h)
+
+pub returning-spec : {M : Type 1} → statement M
+returning-spec =
+    tie.close
+    (tie.spec
+    Inv-loop
+    μ-loop
+    none-requires
+    loop-holds
+    mul-x
+    array-copy-out-x
+    mul-y
+    array-copy-out-y
+    and-requires
+    first-requires
+    with-requires
+    add-i
+    loop-less
+    loop-again
+    returns)
