@@ -11,10 +11,10 @@ use borrow.Author.Tests.{lt-ltb, le-ltb, eq-eqb, ne-eqb}
 use lib.Dec.{ltb, eqb}
 use lib.ListN.{length, take, set, length-set}
 use lib.Seq.{take-suc-set, take-set-le}
-use Rattle.relation.specs.Rel.{Set, Rel, single, difference, image, least, count, plus, nodes}
+use Rattle.relation.specs.Rel.{Set, Rel, Next, single, intersection, difference, inverse, image, least, count, plus, nodes}
 use Rattle.relation.specs.Order.{ready, order}
-use Rattle.relation.proofs.SetLaws.{and-false, least-is, least-lt}
-use Rattle.relation.proofs.Meaning.{Mem, here, there, Steps, one, more, steps-join, and-left, and-right, and-both, mem-below, below-mem, image-sound, plus-complete}
+use Rattle.relation.proofs.SetLaws.{and-false, Least, least-is, least-at, least-none, least-lt}
+use Rattle.relation.proofs.Meaning.{Mem, here, there, Steps, one, more, steps-join, and-left, and-right, and-both, mem-below, below-mem, image-sound, image-complete, plus-complete}
 use Rattle.relation.proofs.Pigeonhole.{Twice, pigeonhole}
 use Rattle.relation.proofs.Walks.{Inside}
 
@@ -31,6 +31,78 @@ unfolding order
 order-stop zero r s h = refl
 order-stop (suc n) r s h = rw (le-ltb (least 64 (ready r s)) 64 h, order)
 
+-- The order by the relation whose inverse is b.
+pub order-inverse : (r b : Rel) (s : Set) → b ≡ inverse r → order 64 (inverse b) s ≡ order 64 r s
+unfolding inverse
+order-inverse r b s e = ap (λ (f : Rel). order 64 (inverse f) s) e
+
+-- The search for the smallest ready event, where b k is the set of the events before k:
+-- k is in s or is 64, and no event below k is ready.
+pub record Seeking (b : Rel) (s : Set) (k : ℕ) : Type 0 where
+  pub high : k ≤ 64
+  pub member : k < 64 → s k ≡ true
+  pub passed : (m : ℕ) → m < k → ready (inverse b) s m ≡ false
+
+not-ready : (b : Rel) (s : Set) (m : ℕ) → s m ≡ false → ready (inverse b) s m ≡ false
+unfolding ready difference
+not-ready b s m e = ap (λ (x : Bool). x && not (image nodes s (inverse b) m)) e
+
+module _ (b : Rel) (s : Set) (k : ℕ) where
+  pub seeking-first : k ≡ least 64 s → Seeking b s k
+  seeking-first e =
+      let l : Least 64 s k = subst (Least 64 s) (sym e) (least-is 64 s) in
+      record { high = l .bound; member = l .member; passed = λ m h. not-ready b s m (l .smaller m h) }
+
+  pub seeking-none : Seeking b s k → 64 ≤ k → k ≡ least 64 (ready (inverse b) s)
+  seeking-none w h =
+      let e : k ≡ 64 = omega (arith, w .high) in
+      e ∙ sym (least-none 64 (ready (inverse b) s) (λ m g. w .passed m (omega arith)))
+
+  -- t is what is both before k and in s, and f its least member.
+  module _ (w : Seeking b s k) (lt : k < 64) (t : Set) (f : ℕ) (meet : t ≡ intersection (b k) s) (least-of : f ≡ least 64 t) where
+    meets : Least 64 (intersection (b k) s) f
+    meets = subst (λ (u : Set). Least 64 u f) meet (subst (Least 64 t) (sym least-of) (least-is 64 t))
+
+    preceded-by : f < 64 → image nodes s (inverse b) k ≡ true
+    unfolding intersection inverse
+    preceded-by h =
+        let both = meets .member h in
+        image-complete nodes s (inverse b) f k (mem-below 64 f h) (and-right (b k f) (s f) both) (and-left (b k f) (s f) both)
+
+    unpreceded : 64 ≤ f → image nodes s (inverse b) k ≡ false
+    unfolding intersection inverse
+    unpreceded h = go (image nodes s (inverse b) k) refl
+      where
+        go : (x : Bool) → image nodes s (inverse b) k ≡ x → image nodes s (inverse b) k ≡ false
+        go false e = e
+        go true e =
+            let (i, m, p, q) = image-sound nodes s (inverse b) k e in
+            let low : i < 64 = below-mem 64 i m in
+            absurd (false≢true (sym (meets .smaller i (omega arith)) ∙ and-both (b k i) (s i) q p))
+
+    preceded-not-ready : f < 64 → ready (inverse b) s k ≡ false
+    unfolding ready difference
+    preceded-not-ready h = ap (λ (x : Bool). s k && not x) (preceded-by h) ∙ and-false (s k)
+
+    pub seeking-next : (f ≡ 64 → ⊥) → (n : ℕ) → Next s (k + 1) n → Seeking b s n
+    seeking-next d n next =
+        record { high = next .high; member = next .member; passed = passed }
+      where
+        passed : (m : ℕ) → m < n → ready (inverse b) s m ≡ false
+        passed m h =
+            elim (decLt m k) [
+              | yes g ↦ w .passed m g
+              | no g ↦ elim (ℕ-discrete m k) [
+                | yes e ↦ ap (ready (inverse b) s) e ∙ preceded-not-ready (omega (arith, d, meets .bound))
+                | no d′ ↦ not-ready b s m (next .before m (omega (arith, g, d′)) h)
+              ]
+            ]
+
+    pub seeking-found : f ≡ 64 → k ≡ least 64 (ready (inverse b) s)
+    unfolding ready difference
+    seeking-found e =
+        sym (least-at 64 (ready (inverse b) s) k lt (and-both (s k) _ (w .member lt) (ap not (unpreceded (omega arith)))) (w .passed))
+
 -- n events are out, and the order of those that are left follows them.
 pub record Out (r : Rel) (s : Set) (at : List ℕ) (n : ℕ) (left : Set) : Type 0 where
   pub long : length at ≡ 64
@@ -39,13 +111,7 @@ pub record Out (r : Rel) (s : Set) (at : List ℕ) (n : ℕ) (left : Set) : Type
 pub out-none : (r : Rel) (s : Set) (at : List ℕ) → length at ≡ 64 → Out r s at 0 s
 out-none r s at l = record { long = l; rest = refl }
 
--- The sets that the code works out in one turn.
-module _ (r : Rel) (s left i m : Set) (at : List ℕ) (n k : ℕ) (out : Out r s at n left) (lt : n < 64)
-    (reached : i ≡ image nodes left r) (readied : m ≡ difference left i) (first : k ≡ least 64 m) where
-  is-first : k ≡ least 64 (ready r left)
-  unfolding ready
-  is-first = first ∙ ap (least 64) (readied ∙ ap (difference left) reached)
-
+module _ (r : Rel) (s left : Set) (at : List ℕ) (n k : ℕ) (out : Out r s at n left) (lt : n < 64) (first : k ≡ least 64 (ready r left)) where
   pub out-more : k < 64 → (z : Set) → z ≡ difference left (single k) → Out r s (set at n k) (n + 1) z
   out-more h z e =
       record {
@@ -55,12 +121,12 @@ module _ (r : Rel) (s left i m : Set) (at : List ℕ) (n k : ℕ) (out : Out r s
       }
     where
       step : k ∷ order (64 - suc n) r z ≡ order (suc (64 - suc n)) r left
-      step = ap (λ (f : Set). k ∷ order (64 - suc n) r f) e ∙ sym (order-next (64 - suc n) r left k is-first h)
+      step = ap (λ (f : Set). k ∷ order (64 - suc n) r f) e ∙ sym (order-next (64 - suc n) r left k first h)
 
   pub out-stop : 64 ≤ k → take n at ≡ order 64 r s
   out-stop h =
       sym (append-nil (take n at))
-      ∙ ap (λ (l : List ℕ). take n at ++ l) (sym (order-stop (64 - n) r left (rw is-first at h))) ∙ out .rest
+      ∙ ap (λ (l : List ℕ). take n at ++ l) (sym (order-stop (64 - n) r left (rw first at h))) ∙ out .rest
 
 pub out-all : (r : Rel) (s left : Set) (at : List ℕ) (n : ℕ) → 64 ≤ n → Out r s at n left → take n at ≡ order 64 r s
 unfolding order

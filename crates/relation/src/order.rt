@@ -14,11 +14,21 @@ pub fn order(g: [[u8; 8]; 64], s: [u8; 8]) -> Sequence
     ensures bounded { λ r. ⌜ r .len ≤ 64 ⌝ }
     ensures ordered { λ r. ⌜ take (r .len) (r .at) ≡ order 64 (edge g) (bit s) ⌝ }
 {
+    let before = grid::inverse(g);
     let mut left = s;
     let mut at = [0u8; 64];
     let mut n: usize = 0;
+    let mut k: usize = 0;
     while n < 64 {
-        let k = row::first(row::minus(left, grid::image(left, g)));
+        // the smallest event left that none left precedes, or 64
+        k = row::first(left);
+        while k < 64 {
+            let p = before[k];
+            if row::first(row::and(p, left)) == 64 {
+                break;
+            }
+            k = row::next(left, k + 1);
+        }
         if 64 <= k {
             return Sequence { at, len: n };
         }
