@@ -35,44 +35,37 @@ impl Cursor {
     }
 }
 
-// The numbers met so far, marked with 1, and whether each was met once and is within the limit.
-pub struct Marks {
-    pub sound: bool,
-    pub at: [u8; 256],
-}
-
-// Follows one chain and marks what it meets.
+// Follows one chain and marks what it meets. Answers whether each number was met once and is within the limit.
 pub fn follow(
     file: &[u8],
     from: usize,
     size: usize,
     limit: usize,
     start: Cursor,
-    marks: [u8; 256],
-) -> Marks
-    requires { ⌜ Linked (now file) 0 0 0 from size limit × (start .at < 256) ⌝ }
-    ensures { λ r. ⌜ ((l : List ℕ) → Marked l marks → Followed limit l (chain limit (nextOf (now (file .entry)) from size) (start .at)) (r .sound) (r .at)) ⌝ }
+    marks: &mut [u8],
+) -> bool
+    requires { ⌜ Linked (now file) 0 0 0 from size limit × (start .at < 256) × (length (now marks) ≡ 256) ⌝ }
+    ensures { λ r. ⌜ ((l : List ℕ) → Marked l (now (marks .entry)) → Followed limit l (chain limit (nextOf (now (file .entry)) from size) (start .at)) r (now (marks .exit))) ⌝ }
 {
     let mut cursor = start;
-    let mut at = marks;
     let mut n = limit + 1;
     while 0 < n {
         let x = cursor.at;
         if x == 0 {
-            return Marks { sound: true, at };
+            return true;
         }
         if limit < x {
-            return Marks { sound: false, at };
+            return false;
         }
-        if at[x] == 1 {
-            return Marks { sound: false, at };
+        if marks[x] == 1 {
+            return false;
         }
-        at[x] = 1;
+        marks[x] = 1;
         let next = cursor.moved(file, from, size);
         cursor = next;
         n -= 1;
     }
-    Marks { sound: true, at }
+    true
 }
 
 // Whether every number from 1 to limit is marked.
@@ -107,12 +100,9 @@ pub fn once_each(
     let mut j: usize = 0;
     while j < count {
         let start = Cursor::start(file, first, step, j);
-        let met = follow(file, from, size, limit, start, marks);
-        if !met.sound {
+        if !follow(file, from, size, limit, start, &mut marks) {
             return false;
         }
-        let at = met.at;
-        marks = at;
         j += 1;
     }
     all_marked(marks, limit)

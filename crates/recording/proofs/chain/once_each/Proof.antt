@@ -20,16 +20,19 @@ loop-holds c = (search needs, c .before .pre, walked-none _ _ _)
 start-requires : tie.Need-start-requires Inv-loop μ-loop
 start-requires c κs = c .before .loop .inv .1 .starts _ (c .loop-test .taken)
 
+slice-aggregate-follow : tie.Need-slice-aggregate-follow Inv-loop μ-loop
+slice-aggregate-follow c = search needs
+
 follow-requires : tie.Need-follow-requires Inv-loop μ-loop
 follow-requires c κs =
-    let linked = c .before .before .loop .inv .1 in
-    (record { starts = λ j h. absurd (omega arith); records = linked .records; small = linked .small }, c .start .ensures .1)
+    let inv = c .before .before .before .loop .inv in
+    let linked = inv .1 in
+    (record { starts = λ j h. absurd (omega arith); records = linked .records; small = linked .small }, c .before .start .ensures .1, inv .2 .marked .long)
 
 returns : tie.Need-returns Inv-loop μ-loop
 returns c =
-    let at-loop = c .before .before .before .before .before in
-    let turn = c .before .before .before in
-    walked-fails _ _ _ _ _ _ _ _ _ (turn .start .ensures .0) (turn .before .loop-test .taken) (at-loop .loop .inv .2) (c .before .before .follow .ensures) (not-true _ (c .if1 .taken))
+    let turn = c .before .before .before .before in
+    walked-fails _ _ _ _ _ _ _ _ _ (turn .start .ensures .0) (turn .before .loop-test .taken) (turn .before .before .loop .inv .2) (c .before .before .follow .ensures) (not-true _ (c .if1 .taken))
 
 add-j : tie.Need-add-j Inv-loop μ-loop
 add-j c = search needs
@@ -39,9 +42,9 @@ loop-less c = search needs
 
 loop-again : tie.Need-loop-again Inv-loop μ-loop
 loop-again c =
-    let at-loop = c .before .before .before .before .before .before in
     let turn = c .before .before .before .before in
-    (search needs, at-loop .loop .inv .1, walked-more _ _ _ _ _ _ _ _ (turn .start .ensures .0) (at-loop .loop .inv .2) (c .before .before .before .follow .ensures) (not-false _ (c .before .if1 .left)))
+    let inv = turn .before .before .loop .inv in
+    (search needs, inv .1, walked-more _ _ _ _ _ _ _ _ (turn .start .ensures .0) (inv .2) (c .before .before .follow .ensures) (not-false _ (c .if1 .left)))
 
 all-marked-requires : tie.Need-all-marked-requires Inv-loop μ-loop
 all-marked-requires c κs = c .before .loop .inv .1 .small
@@ -59,6 +62,7 @@ once-each-spec =
     μ-loop
     loop-holds
     start-requires
+    slice-aggregate-follow
     follow-requires
     returns
     add-j
