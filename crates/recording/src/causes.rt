@@ -11,17 +11,16 @@ use relation::grid;
 use relation::row;
 ghost use mathlib.Core.Path.{_≡_};
 ghost use mathlib.Core.Bool.{true, not};
-ghost use mathlib.Core.List.{List, [], _∷_};
-ghost use Prim.Native.Nat.{ℕ, _≤_, _<_};
+ghost use Prim.Native.Nat.{_≤_, _<_};
 ghost use lib.ListN.{length};
-ghost use Rattle.relation.specs.Bits.{bit, edge};
-ghost use Rattle.relation.specs.Rel.{nodes, inverse};
+ghost use Rattle.relation.specs.Bits.{edge};
+ghost use Rattle.relation.specs.Rel.{nodes};
 ghost use Rattle.models.specs.Graph.{base};
 ghost use Rattle.models.specs.Rules.{first};
 ghost use Rattle.recording.specs.Layout.{kind, events, locations, links, kindKnown, mostEvents, mostLinks, Sized};
-ghost use Rattle.recording.specs.Chains.{each, linksInto};
+ghost use Rattle.recording.specs.Chains.{each};
 ghost use Rattle.recording.specs.Decode.{decode};
-ghost use Rattle.recording.specs.Causes.{Readable, linksSoundAt, pairedAt, eventLegal, Chained, headerOver, headerCauses, bodyCauses, badThreads, badChains, coRing};
+ghost use Rattle.recording.specs.Causes.{Readable, linksSoundAt, pairedAt, Chained, headerOver, headerCauses, bodyCauses, badThreads, badChains, coRing};
 ghost use Rattle.recording.specs.Load.{headerOf, loadOf, numberOf, causeFor};
 
 // Whether all links are sound.

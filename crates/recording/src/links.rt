@@ -14,7 +14,7 @@ ghost use Rattle.models.specs.Graph.{base};
 ghost use Rattle.recording.specs.Layout.{events, Sized};
 ghost use Rattle.recording.specs.Chains.{each, linksInto};
 ghost use Rattle.recording.specs.Decode.{decode};
-ghost use Rattle.recording.specs.Causes.{allOf, oneSource, linksSoundAt, readable, Chained, Readable};
+ghost use Rattle.recording.specs.Causes.{allOf, oneSource, linksSoundAt, readable, Chained};
 ghost use Rattle.recording.specs.Sets.{SourcesInto};
 
 // Whether a row, the rf sources of an event, has one member at most.
@@ -43,6 +43,7 @@ pub fn sound_into(file: &[u8], po: [[u8; 8]; 64], b: usize) -> bool
             return one_source(rf);
         }
         let a = field::link_byte(file, m, 2);
+        // The mask keeps within po; the source of a sound link is below 64.
         let after = po[a & 63];
         if !legal::link_sound(file, row::has(after, b), m, b) {
             return false;

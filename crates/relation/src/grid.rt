@@ -4,7 +4,7 @@
 use crate::row;
 ghost use mathlib.Core.Path.{_≡_};
 ghost use Prim.Native.Nat.{_<_};
-ghost use Rattle.relation.specs.Rel.{none, pair, either, both, minus, inverse, identity, product, from, into, image, chain, through, plus, optional, star, diagonal, nodes};
+ghost use Rattle.relation.specs.Rel.{none, pair, either, both, minus, inverse, identity, product, from, into, image, chain, plus, optional, star, diagonal, nodes};
 ghost use Rattle.relation.specs.Bits.{bit, edge};
 
 // The empty relation.

@@ -7,7 +7,7 @@ use crate::row;
 ghost use mathlib.Core.Path.{_≡_};
 ghost use mathlib.Core.Bool.{true};
 ghost use Prim.Native.Nat.{ℕ, _<_, _≤_};
-ghost use lib.ListN.{length, take};
+ghost use lib.ListN.{take};
 ghost use Rattle.relation.specs.Bits.{edge};
 ghost use Rattle.relation.specs.Rel.{chain, nodes};
 ghost use Rattle.relation.specs.Ring.{RingOrNone, power, Shortest, Levels, StepsBack, Way, Turned, turnedTo, SmallestAt};

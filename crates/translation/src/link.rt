@@ -10,7 +10,7 @@ ghost use Prim.Native.Nat.{_*_, _≤_, _<_};
 ghost use Rattle.relation.specs.Bits.{bit, edge};
 ghost use Rattle.recording.specs.Layout.{events};
 ghost use Rattle.translation.specs.Contents.{contents};
-ghost use Rattle.translation.specs.Translate.{newEvents, controlled, newLink};
+ghost use Rattle.translation.specs.Translate.{newEvents, controlled};
 ghost use Rattle.translation.specs.Encode.{linksBefore, linksUpTo};
 ghost use Rattle.translation.specs.Answer.{chip};
 ghost use Rattle.translation.specs.Parts.{Source, NewEvent, Ready, RowsInto, Ends, targets, ctrlInto};
