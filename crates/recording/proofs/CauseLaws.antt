@@ -22,6 +22,7 @@ use Rattle.recording.specs.Load.{headerOf, answer, loadOf, numberOf, cau
 use Rattle.recording.specs.declared.Header.{Header}
 use Rattle.recording.specs.declared.Load.{Load}
 use Rattle.recording.specs.declared.Load.the-variants.{Refused, Loaded}
+use Rattle.recording.proofs.Truth.{is-false, same-test}
 use Rattle.recording.proofs.FieldLaws.{event-small}
 use Rattle.recording.proofs.ChainLaws.{fresh-append, each-at}
 
@@ -42,22 +43,13 @@ first-none n = refl
 pub alone : (r : Recording ℕ) (b : ℕ) (s : Set) → s ≡ inverse (r .link 1) b → 64 ≤ least 64 s → true ≡ oneSource r b
 unfolding oneSource inverse
 alone r b s e h =
-    sym (ap not (none-of _ (λ p.
+    sym (ap not (is-false _ (λ p.
     let (a, m, q) = some-sound nodes (λ x. some nodes (λ y. (r .link 1 x b && r .link 1 y b) && not (eqb x y))) p in
     let (c, k, w) = some-sound nodes (λ y. (r .link 1 a b && r .link 1 y b) && not (eqb a y)) q in
     let t = and-left (r .link 1 a b) (r .link 1 c b) (and-left (r .link 1 a b && r .link 1 c b) (not (eqb a c)) w) in
     let l = least-lt 64 s a (below-mem 64 a m) (ap (λ (f : Set). f a) e ∙ t) in
     let i = below-mem 64 a m in
     omega arith)))
-  where
-    none-of : (x : Bool) → (x ≡ true → ⊥) → x ≡ false
-    none-of true d = absurd (d refl)
-    none-of false d = refl
-
-same-bool : (x y : Bool) → (x ≡ true → y ≡ true) → (y ≡ true → x ≡ true) → x ≡ y
-same-bool true y u v = sym (u refl)
-same-bool false true u v = v refl
-same-bool false false u v = refl
 
 least-none : (s : Set) → eqb (least 64 s) 64 ≡ not (some nodes s)
 least-none s =
@@ -69,7 +61,7 @@ least-none s =
 pub alone-with : (r : Recording ℕ) (b x : ℕ) (s t : Set) → s ≡ inverse (r .link 1) b → x ≡ least 64 s → x < 64 → t ≡ difference s (single x)
     → eqb (least 64 t) 64 ≡ oneSource r b
 unfolding oneSource inverse difference single
-alone-with r b x s t e l h d = least-none t ∙ ap not (same-bool _ _ one-way other-way)
+alone-with r b x s t e l h d = least-none t ∙ ap not (same-test _ _ one-way other-way)
   where
     two : Set
     two a = some nodes (λ c. (r .link 1 a b && r .link 1 c b) && not (eqb a c))

@@ -21,22 +21,19 @@ use Rattle.recording.specs.Chains.{each}
 use Rattle.recording.specs.Decode.{isRecorded, isInitial, decode}
 use Rattle.recording.specs.Causes.{legal, eventLegal, readLegal, writeLegal}
 use Rattle.recording.specs.Sets.{accessAt, Following, AccessRows, SourcesInto, LinkRows}
+use Rattle.recording.proofs.Truth.{is-false}
 use Rattle.recording.proofs.FieldLaws.{recorded-bounds, location-initial}
 use Rattle.recording.proofs.ChainLaws.{each-at}
 use Rattle.recording.proofs.LinkLaws.{empty-row}
 
--- A test that is true only of numbers below 64 is false from 64 on.
-refuted : (b : Bool) → (b ≡ true → ⊥) → b ≡ false
-refuted true d = absurd (d refl)
-refuted false d = refl
-
+-- No number from 64 on is an event's.
 pub recorded-out : (f : List ℕ) → Sized f → (e : ℕ) → 64 ≤ e → isRecorded f e ≡ false
-recorded-out f s e h = refuted (isRecorded f e) (λ p. let (a, b) = recorded-bounds f e p in omega (arith, s .most-events))
+recorded-out f s e h = is-false (isRecorded f e) (λ p. let (a, b) = recorded-bounds f e p in omega (arith, s .most-events))
 
 initial-out : (f : List ℕ) → Sized f → (e : ℕ) → 64 ≤ e → isInitial f e ≡ false
 unfolding isInitial
 initial-out f s e h =
-    refuted (leb 56 e && ltb e (56 + locations f))
+    is-false (leb 56 e && ltb e (56 + locations f))
     (λ p. let w = ltb-true e (56 + locations f) (and-right (leb 56 e) (ltb e (56 + locations f)) p) in omega (arith, s .most-locations))
 
 -- What is no event is in no set.
@@ -55,12 +52,12 @@ module _ (f : List ℕ) (e : ℕ) (r : isRecorded f e ≡ false) (i : isInitial 
 
 -- No event is numbered between the records and the initial writes.
 gap-recorded : (f : List ℕ) (e : ℕ) → events f < e → isRecorded f e ≡ false
-gap-recorded f e h = refuted (isRecorded f e) (λ p. let (a, b) = recorded-bounds f e p in omega arith)
+gap-recorded f e h = is-false (isRecorded f e) (λ p. let (a, b) = recorded-bounds f e p in omega arith)
 
 gap-initial : (f : List ℕ) (e : ℕ) → e < 56 → isInitial f e ≡ false
 unfolding isInitial
 gap-initial f e g =
-    refuted (leb 56 e && ltb e (56 + locations f)) (λ p. let w = leb-true 56 e (and-left (leb 56 e) (ltb e (56 + locations f)) p) in omega arith)
+    is-false (leb 56 e && ltb e (56 + locations f)) (λ p. let w = leb-true 56 e (and-left (leb 56 e) (ltb e (56 + locations f)) p) in omega arith)
 
 -- The links into what is no record.
 pub link-none : (f : List ℕ) (t b : ℕ) (s : Set) → s ≡ empty → isRecorded f b ≡ false → s ≡ inverse (decode f .link t) b
@@ -226,7 +223,7 @@ module _ (f : List ℕ) (s : Sized f) (legal-events : each (events f) (eventLega
   pub location-none : (e l : ℕ) → ((m : ℕ) → m < 8 → accessAt f m e ≡ eqb l m) → 8 ≤ l → none e ≡ sameLocation (decode f) e
   unfolding accessAt
   location-none e l at h =
-      no-access f e (refuted (access (decode f) e) (λ p.
+      no-access f e (is-false (access (decode f) e) (λ p.
       let w = access-location e p in
       let q = and-both (access (decode f) e) (eqb (decode f .location e) (decode f .location e)) p (eq-eqb (decode f .location e) (decode f .location e) refl) in
       let z = eqb-true l (decode f .location e) (sym (at (decode f .location e) (omega (arith, s .most-locations))) ∙ q) in

@@ -16,7 +16,7 @@ use Rattle.relation.specs.Bits.{bit, edge}
 use Rattle.relation.proofs.ByteLaws.{bit-none}
 use Rattle.relation.proofs.GridLaws.{bit-nil}
 use Rattle.relation.proofs.Meaning.{and-left, and-right}
-use Rattle.relation.proofs.SetLaws.{or-false, and-false}
+use Rattle.relation.proofs.SetLaws.{or-assoc, or-false, and-false}
 use Rattle.recording.specs.Layout.{events, links, linkByte, Sized}
 use Rattle.recording.specs.Chains.{follow, chain, nextOf, nextLink, firstLink, linksInto}
 use Rattle.recording.specs.Decode.{isRecorded, decode}
@@ -119,10 +119,6 @@ module _ (f : List ℕ) (t b : ℕ) where
         same = λ a. ap (λ (c : Bool). c || some (left f m y) (leads f t a)) (g a) ∙ or-assoc (r a) (leads f t a x) (some (left f m y) (leads f t a))
             ∙ ap (λ (l : List ℕ). r a || some l (leads f t a)) (sym (link-step f n m x y e d h s)) ∙ w .same a;
       }
-    where
-      or-assoc : (a b c : Bool) → (a || b) || c ≡ a || (b || c)
-      or-assoc true b c = refl
-      or-assoc false b c = refl
 
   pub taken-with : (n m x y v s : ℕ) (r u : Set) → n ≡ suc m → (x ≡ 0 → ⊥) → x ≤ links f → Taken f t b n x r → y ≡ nextLink f x
       → v ≡ linkByte f x 1 → v ≡ t → s ≡ linkByte f x 2 → u ≡ union r (single s) → Taken f t b m y u

@@ -14,7 +14,7 @@ use Rattle.relation.specs.Ring.{under}
 use Rattle.relation.specs.Bits.{bit}
 use Rattle.relation.proofs.ByteLaws.{bit-out}
 use Rattle.relation.proofs.Meaning.{and-left}
-use Rattle.relation.proofs.SetLaws.{or-false, and-false, Least, least-is, upto, upto-none, upto-with, upto-keep, upto-skip, upto-done}
+use Rattle.relation.proofs.SetLaws.{or-assoc, or-false, and-false, and-true, Least, least-is, upto, upto-none, upto-with, upto-keep, upto-skip, upto-done}
 use Rattle.models.specs.Recording.{event, ofClass, ofMode, flagged}
 use Rattle.recording.specs.Layout.{events, locations, eventByte, Sized}
 use Rattle.recording.specs.Decode.{isRecorded, isInitial, fieldOr, decode}
@@ -151,10 +151,6 @@ module _ (f : List ℕ) (s : Sized f) where
   event-field j g x e true b p q =
       ap (λ (y : ℕ). eqb y x) (sym (field-initial f j g e (initial-bound e p)))
       ∙ sym (rw (disjoint e p b q) (or-false (eqb g x && true) ∙ and-true (eqb g x)))
-    where
-      and-true : (y : Bool) → y && true ≡ y
-      and-true true = refl
-      and-true false = refl
   event-field j g x e false true p q =
       ap (λ (y : ℕ). eqb y x) (recorded-field j g e q) ∙ sym (ap (λ (y : Bool). y || eqb (eventByte f e j) x) (and-false (eqb g x)))
   event-field j g x e false false p q = sym (or-false (eqb g x && false) ∙ and-false (eqb g x))
@@ -229,8 +225,4 @@ module _ (f : List ℕ) (all : Set) (p : all ≡ isRecorded f) where
 -- One set or two others, grouped as fences of at least a mode are.
 pub union-three : (a b c s t u : Set) → u ≡ union s t → s ≡ a → t ≡ union b c → u ≡ union (union a b) c
 unfolding union
-union-three a b c s t u p q r = p ∙ ap₂ union q r ∙ fun-ext (λ e. or-assoc (a e) (b e) (c e))
-  where
-    or-assoc : (x y z : Bool) → x || (y || z) ≡ (x || y) || z
-    or-assoc true y z = refl
-    or-assoc false y z = refl
+union-three a b c s t u p q r = p ∙ ap₂ union q r ∙ fun-ext (λ e. sym (or-assoc (a e) (b e) (c e)))

@@ -84,7 +84,7 @@ unfolding met
 line-none f at = record { bounded = omega arith; listed = refl }
 
 -- The line so far, and the rest of a thread's chain.
-pub record Along (f : List ℕ) (t x len : ℕ) (at : List ℕ) : Type 0 where
+pub record Partway (f : List ℕ) (t x len : ℕ) (at : List ℕ) : Type 0 where
   pub rest : List ℕ
   pub ended : Ended (events f) (nextEvent f) x rest
   pub long : length at ≡ 64
@@ -96,9 +96,9 @@ module _ (f : List ℕ) (s : Sized f) (sound : threadsSound f ≡ true) where
   unfolding onceEach
   threads-fresh = and-left _ _ sound
 
-  pub along-start : (t x len : ℕ) (at : List ℕ) → t < threads → Line f t len at → length at ≡ 64 → x ≡ head f t → Along f t x len at
+  pub partway-start : (t x len : ℕ) (at : List ℕ) → t < threads → Line f t len at → length at ≡ 64 → x ≡ head f t → Partway f t x len at
   unfolding met
-  along-start t x len at h line l e =
+  partway-start t x len at h line l e =
       let rest = chain (events f) (nextEvent f) (head f t) in
       let whole : take len at ++ rest ≡ met (events f) (nextEvent f) (head f) (suc t) = ap (λ (k : List ℕ). k ++ rest) (line .listed) in
       let most = met-length (events f) (nextEvent f) (head f) threads (suc t) (omega arith) threads-fresh in
@@ -112,21 +112,21 @@ module _ (f : List ℕ) (s : Sized f) (sound : threadsSound f ≡ true) where
         whole = rw (add-one t) whole;
       }
 
-module _ (f : List ℕ) (t x len : ℕ) (at : List ℕ) (w : Along f t x len at) where
-  pub along-done : x ≡ 0 → Line f (t + 1) len at
-  along-done e =
+module _ (f : List ℕ) (t x len : ℕ) (at : List ℕ) (w : Partway f t x len at) where
+  pub partway-done : x ≡ 0 → Line f (t + 1) len at
+  partway-done e =
       record {
         bounded = omega (arith, w .room);
         listed = sym (append-nil (take len at)) ∙ ap (λ (k : List ℕ). take len at ++ k) (sym (ended-end (events f) (nextEvent f) (w .ended) e)) ∙ w .whole;
       }
 
-  pub along-in : (x ≡ 0 → ⊥) → (1 ≤ x) × (x ≤ events f) × (len < 48)
-  along-in d =
+  pub partway-in : (x ≡ 0 → ⊥) → (1 ≤ x) × (x ≤ events f) × (len < 48)
+  partway-in d =
       let (l, v, e, q) = ended-after (events f) (nextEvent f) x (w .ended) (omega (arith, d)) in
       (omega (arith, d), q, omega (arith, w .room, ap length e))
 
-  pub along-more : (x ≡ 0 → ⊥) → (y : ℕ) → y ≡ nextEvent f x → Along f t y (len + 1) (set at len x)
-  along-more d y p =
+  pub partway-more : (x ≡ 0 → ⊥) → (y : ℕ) → y ≡ nextEvent f x → Partway f t y (len + 1) (set at len x)
+  partway-more d y p =
       let (l, v, e, q) = ended-after (events f) (nextEvent f) x (w .ended) (omega (arith, d)) in
       record {
         rest = l;

@@ -385,6 +385,10 @@ pub returning-out : (a b : List (List ℕ)) → length a ≡ 64 → (i : ℕ) �
 unfolding diagonal chain empty
 returning-out a b l i h = ap (λ (s : Set). s i) (image-out nodes (edge a i) (inverse (edge b)) (edge-out a l i h))
 
-pub returning-by : (r b e : Rel) → b ≡ inverse e → diagonal (chain nodes r (inverse b)) ≡ diagonal (chain nodes r e)
+-- A relation that is given the other way round.
+pub inverse-back : (b e : Rel) → b ≡ inverse e → inverse b ≡ e
 unfolding inverse
-returning-by r b e p = ap (λ (c : Rel). diagonal (chain nodes r (inverse c))) p
+inverse-back b e p = ap inverse p
+
+pub returning-by : (r b e : Rel) → b ≡ inverse e → diagonal (chain nodes r (inverse b)) ≡ diagonal (chain nodes r e)
+returning-by r b e p = ap (λ (c : Rel). diagonal (chain nodes r c)) (inverse-back b e p)

@@ -13,7 +13,8 @@ use lib.ListN.{length, take, set, length-set}
 use lib.Seq.{take-suc-set, take-set-le}
 use Rattle.relation.specs.Rel.{Set, Rel, Next, single, intersection, difference, inverse, image, least, count, plus, nodes}
 use Rattle.relation.specs.Order.{ready, order}
-use Rattle.relation.proofs.SetLaws.{and-false, Least, least-is, least-at, least-none, least-lt}
+use Rattle.relation.proofs.SetLaws.{and-false, and-true, Least, least-is, least-at, least-none, least-lt}
+use Rattle.relation.proofs.GridLaws.{inverse-back}
 use Rattle.relation.proofs.Meaning.{Mem, here, there, Steps, one, more, steps-join, and-left, and-right, and-both, mem-below, below-mem, image-sound, image-complete, plus-complete}
 use Rattle.relation.proofs.Pigeonhole.{Twice, pigeonhole}
 use Rattle.relation.proofs.Walks.{Inside}
@@ -33,8 +34,7 @@ order-stop (suc n) r s h = rw (le-ltb (least 64 (ready r s)) 64 h, order)
 
 -- The order by the relation whose inverse is b.
 pub order-inverse : (r b : Rel) (s : Set) → b ≡ inverse r → order 64 (inverse b) s ≡ order 64 r s
-unfolding inverse
-order-inverse r b s e = ap (λ (f : Rel). order 64 (inverse f) s) e
+order-inverse r b s e = ap (λ (f : Rel). order 64 f s) (inverse-back b r e)
 
 -- The search for the smallest ready event, where b k is the set of the events before k:
 -- k is in s or is 64, and no event below k is ready.
@@ -166,10 +166,6 @@ count-bound (suc n) s = go (s n) refl (count-bound n s)
 without-other : (s : Set) (k j : ℕ) → (k ≡ j → ⊥) → difference s (single k) j ≡ s j
 unfolding difference single
 without-other s k j d = rw (ne-eqb k j d) (and-true (s j))
-  where
-    and-true : (b : Bool) → b && true ≡ b
-    and-true true = refl
-    and-true false = refl
 
 without-self : (s : Set) (k : ℕ) → difference s (single k) k ≡ false
 unfolding difference single

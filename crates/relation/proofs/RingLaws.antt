@@ -17,7 +17,7 @@ use Rattle.relation.specs.Bits.{bit, edge}
 use Rattle.relation.specs.Ring.{under, power, after, closed, Ring, RingOrNone, Shortest, Levels, StepsBack, Way, SmallestAt, Turned, turnedTo}
 use Rattle.relation.proofs.ByteLaws.{bit-out}
 use Rattle.relation.proofs.SetLaws.{least-is, least-lt}
-use Rattle.relation.proofs.GridLaws.{Rows, rows-set}
+use Rattle.relation.proofs.GridLaws.{inverse-back, Rows, rows-set}
 use Rattle.relation.proofs.Meaning.{and-left, and-right, and-both, or-either, mem-below, below-mem, image-sound, chain-sound, chain-complete, plus-sound}
 use Rattle.relation.proofs.Walks.{Inside, Walk, stay, go, walk-join, steps-walk, power-sound, power-complete, shorten, walk-zero}
 
@@ -391,8 +391,7 @@ reached-more r e s h k x w p q = rows-set (reached r s) e h k x w p q
 
 -- A closing relation may be given the other way round.
 pub shortest-by : (r b e : Rel) (n s : ℕ) → b ≡ inverse e → Shortest r (inverse b) n s → Shortest r e n s
-unfolding inverse
-shortest-by r b e n s p w = subst (λ (c : Rel). Shortest r (inverse c) n s) p w
+shortest-by r b e n s p w = subst (λ (c : Rel). Shortest r c n s) (inverse-back b e p) w
 
 -- One round of `shortest`: an event that n steps and e bring back to itself, or none.
 module _ (r e p : Rel) (x : List ℕ) (n s : ℕ) (at-n : p ≡ power n r) (returning : bit x ≡ diagonal (chain nodes p e))

@@ -18,6 +18,10 @@ or-comm true false = refl
 or-comm false true = refl
 or-comm false false = refl
 
+pub or-assoc : (a b c : Bool) → (a || b) || c ≡ a || (b || c)
+or-assoc true b c = refl
+or-assoc false b c = refl
+
 pub or-false : (x : Bool) → x || false ≡ x
 or-false true = refl
 or-false false = refl
@@ -121,10 +125,6 @@ unfolding union single
 upto-with k s t p e =
     fun-ext
     (λ j. ap₂ _||_ (ap (λ (f : Set). f j) p) (sym (only s k j true e ∙ and-true (eqb k j))) ∙ sym (upto-split k s j))
-  where
-    and-true : (b : Bool) → b && true ≡ b
-    and-true true = refl
-    and-true false = refl
 
 pub upto-keep : (k : ℕ) (s t : Set) → t ≡ upto k s → s k ≡ false → t ≡ upto (k + 1) s
 upto-keep k s t p e =

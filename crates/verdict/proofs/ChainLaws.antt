@@ -11,6 +11,7 @@ use lib.Dec.{eqb}
 use Rattle.relation.specs.Rel.{Set, Rel, union, intersection, either, identity, from, into, chain, nodes}
 use Rattle.relation.specs.Bits.{bit}
 use Rattle.relation.proofs.ByteLaws.{bit-out}
+use Rattle.relation.proofs.SetLaws.{or-assoc}
 use Rattle.relation.proofs.Meaning.{Mem, and-left, and-right, and-both, or-either, or-left, or-right, mem-below, chain-sound, chain-complete}
 
 -- Two relations that hold together are equal.
@@ -94,7 +95,3 @@ either-chain a b c =
 pub either-assoc : (a b c : Rel) → either (either a b) c ≡ either a (either b c)
 unfolding either union
 either-assoc a b c = fun-ext (λ x. fun-ext (λ y. or-assoc (a x y) (b x y) (c x y)))
-  where
-    or-assoc : (p q r : Bool) → (p || q) || r ≡ p || (q || r)
-    or-assoc true q r = refl
-    or-assoc false q r = refl
