@@ -2,7 +2,6 @@
 
 use crate::judge;
 use recording::causes;
-use verdict::Answer;
 use verdict::Verdict;
 ghost use mathlib.Core.Path.{_≡_};
 ghost use Rattle.models.specs.Rules.{ARMv8};
@@ -17,11 +16,7 @@ pub fn verdict(file: &[u8]) -> Verdict
 {
     let k = causes::cause(file, 2);
     if k != 0 {
-        return Verdict {
-            answer: Answer::Refused(k),
-            at: [0u8; 64],
-            len: 0,
-        };
+        return verdict::refused(k);
     }
     loaded(file)
 }

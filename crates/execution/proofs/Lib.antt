@@ -1,2 +1,3 @@
 -- Theorems of `execution`.
 pub mod BaseOf
+pub mod AllShown

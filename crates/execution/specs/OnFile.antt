@@ -3,12 +3,14 @@ use mathlib.Core.Path.{_≡_}
 use mathlib.Core.List.{List}
 use Prim.Native.Nat.{ℕ, suc}
 use Rattle.relation.specs.Rel.{nodes}
-use Rattle.models.specs.Recording.{Recording}
+use Rattle.relation.specs.Order.{EachOnce}
+use Rattle.models.specs.Recording.{Recording, event}
 use Rattle.models.specs.Graph.{Base, base, graph}
 use Rattle.models.specs.Rules as models
 use Rattle.recording.specs.Decode.{decode}
 use Rattle.recording.specs.Load.{causeFor}
 use Rattle.verdict.specs.Answer.{refuses, answers}
+use Rattle.verdict.specs.Shown.{events}
 use Rattle.verdict.specs.declared.Verdict.{Verdict}
 
 -- v is the verdict of the model M on the recording r. Its answer is that of M's five rules, as statements about the execution graph of r:
@@ -23,3 +25,8 @@ pub record OnRecording (M : models.Model) (Judged : Base → Verdict → Type 0)
 pub record OnFile (k : ℕ) (M : models.Model) (Judged : Base → Verdict → Type 0) (f : List ℕ) (v : Verdict) : Type 0 where
   pub refused : (n : ℕ) → causeFor k f ≡ suc n → (v .answer ≡ refuses (suc n)) × (v .len ≡ 0)
   pub judged : causeFor k f ≡ 0 → OnRecording M Judged (decode f) v
+
+-- "Allowed: all events": where a verdict on the file f is allowed, it shows every event of the recording exactly once.
+-- `imm-shows-all` and `armv8-shows-all` prove it of every verdict that is `OnFile`.
+abbrev pub ShowsAll : List ℕ → Verdict → Type 0
+ShowsAll f v = v .answer ≡ answers 0 → EachOnce (event (decode f)) (events v)

@@ -1,8 +1,8 @@
 -- Laws of the lines that are printed: demand 3 of the two verdicts, and the lines by what loading answers. Assumes nothing.
-use mathlib.Core.Path.{_≡_, refl, sym, ap, ap₂, _∙_}
+use mathlib.Core.Path.{_≡_, refl, sym, ap, ap₂, subst, _∙_}
 use mathlib.Core.List.{List, _++_}
 use mathlib.Core.Logic.{inl, inr}
-use Prim.Native.Nat.{ℕ, zero, suc, _≤_}
+use Prim.Native.Nat.{ℕ, zero, suc, _+_, _≤_}
 use native.Mathlib.Omega.{arith}
 use borrow.Author.Tests.{eqb-true}
 use lib.Dec.{eqb}
@@ -12,14 +12,16 @@ use Rattle.models.specs.Rules.{IMM, ARMv8}
 use Rattle.recording.specs.Layout.{kind, kindKnown}
 use Rattle.recording.specs.Causes.{refusal}
 use Rattle.recording.specs.Load.{headerOf, answer, loadOf, numberOf, causeFor}
+use Rattle.recording.specs.Input.{longest}
 use Rattle.recording.specs.declared.Header.{Header}
 use Rattle.recording.specs.declared.Load.{Load}
 use Rattle.recording.specs.declared.Load.the-variants.{Refused, Loaded}
 use Rattle.recording.proofs.CauseLaws.{loaded-answer, cause-none, cause-goes-on, load-number}
 use Rattle.recording.proofs.Accepted.{accepted, known}
+use Rattle.recording.proofs.Longest.{read-of}
 use Rattle.verdict.specs.declared.Verdict.{Verdict}
-use Rattle.verdict.specs.declared.Answer.the-variants.{Allowed}
 use Rattle.verdict.specs.Answer.{refuses, answers}
+use Rattle.verdict.proofs.ShownMeaning.{answers-zero}
 use Rattle.execution.specs.OnFile.{OnFile}
 use Rattle.imm.specs.Judged as imm
 use Rattle.armv8.specs.Judged as armv8
@@ -45,15 +47,11 @@ module _ (k : ℕ) (f : List ℕ) (v : Verdict) where
   pub armv8-bounded : OnFile k ARMv8 armv8.Judged f v → v .len ≤ 64
   armv8-bounded on = bounded (λ n e. on .refused n e .1) (λ e. on .judged e .shown .bound)
 
-answers-allowed : (k : ℕ) → answers k ≡ Allowed → k ≡ 0
-answers-allowed zero p = refl
-answers-allowed (suc k) p = absurd (let z : _≡_ {A = ℕ} 0 1 = cc in omega arith)
-
 -- Demand 3, for the verdicts on a source file that loads and on its translation.
-pub both-sound : (f : List ℕ) (v w : Verdict) → causeFor 1 f ≡ 0 → OnSource f v → OnChip (translation f) w → w .answer ≡ Allowed → v .answer ≡ Allowed
+pub both-sound : (f : List ℕ) (v w : Verdict) → causeFor 1 f ≡ 0 → OnSource f v → OnChip (translation f) w → w .answer ≡ answers 0 → v .answer ≡ answers 0
 unfolding immVerdict armv8Verdict
 both-sound f v w p on chip-on h =
-    let allowed = answers-allowed _ (sym (chip-on .shown .answer) ∙ h) in
+    let allowed = answers-zero _ (sym (chip-on .shown .answer) ∙ h) in
     on .shown .answer ∙ ap answers (soundness f (loads-source f p) .allowed-back allowed)
 
 -- What is printed, by what loading answered.
@@ -91,7 +89,7 @@ module _ (f : List ℕ) (a : Load) (is : a ≡ loadOf f) where
         ]
 
     pub source-lines : h .kind ≡ 1 → (v w : Verdict) (first second : List ℕ) → OnSource f v → OnChip (translation f) w
-        → (w .answer ≡ Allowed → v .answer ≡ Allowed) → first ≡ lineFor source v → second ≡ lineFor chip w → Prints f (first ++ second)
+        → (w .answer ≡ answers 0 → v .answer ≡ answers 0) → first ≡ lineFor source v → second ≡ lineFor chip w → Prints f (first ++ second)
     source-lines e v w first second on chip-on sound p q =
         let (z, i) = cause-goes-on 1 f (own-kind 1 e) in
         record {
@@ -108,3 +106,18 @@ module _ (f : List ℕ) (a : Load) (is : a ≡ loadOf f) where
           on-source = λ u j. absurd (let y : 1 ≡ 2 = sym j ∙ i in omega arith);
           on-chip = λ u j. record { on-chip = w; judged-chip = on; prints = p };
         }
+
+-- What is printed of what is read of an input is what is printed of the input.
+pub prints-input : (input start text : List ℕ) → start ≡ take (longest + 1) input → Prints start text → Prints input text
+prints-input input start text read w =
+    elim (read-of input) [
+      | inl e ↦ subst (λ (f : List ℕ). Prints f text) (read ∙ e) w
+      | inr (n, all, part) ↦ record {
+        refused = λ m z. w .refused m (ap refusal read ∙ part ∙ sym all ∙ z);
+        on-source = λ z i. absurd (not-loaded n all z);
+        on-chip = λ z i. absurd (not-loaded n all z);
+      }
+    ]
+  where
+    not-loaded : (n : ℕ) → refusal input ≡ suc n → refusal input ≡ 0 → ⊥
+    not-loaded n all z = (let y : suc n ≡ 0 = sym all ∙ z in omega arith)

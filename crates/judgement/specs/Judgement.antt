@@ -7,8 +7,7 @@ use Rattle.recording.specs.Layout.{kind}
 use Rattle.recording.specs.Decode.{decode}
 use Rattle.recording.specs.Causes.{refusal}
 use Rattle.verdict.specs.declared.Verdict.{Verdict}
-use Rattle.verdict.specs.declared.Answer.the-variants.{Allowed}
-use Rattle.verdict.specs.Answer.{refuses}
+use Rattle.verdict.specs.Answer.{refuses, answers}
 use Rattle.verdict.specs.Shown.{events}
 use Rattle.execution.specs.OnFile.{OnRecording}
 use Rattle.imm.specs.Judged as imm
@@ -33,7 +32,7 @@ pub record SourceLines (f text : List ℕ) : Type 0 where
   pub on-chip : Verdict
   pub judged : OnSource f on-source
   pub judged-chip : OnChip (translation f) on-chip
-  pub sound : on-chip .answer ≡ Allowed → on-source .answer ≡ Allowed
+  pub sound : on-chip .answer ≡ answers 0 → on-source .answer ≡ answers 0
   pub prints : text ≡ lineFor source on-source ++ lineFor chip on-chip
 
 -- "kind 2 a chip line"

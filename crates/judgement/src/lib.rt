@@ -1,17 +1,17 @@
 // The judgement of a file as a whole: the verdict on its translation, and the lines that the judge prints.
 
 use lines::Text;
+use recording::INPUT;
 use recording::Load;
 use recording::causes;
 use translation::Translation;
-use verdict::Answer;
 use verdict::Verdict;
 ghost use mathlib.Core.Path.{_≡_};
-ghost use mathlib.Core.List.{_++_};
-ghost use Prim.Native.Nat.{_≤_};
+ghost use mathlib.Core.List.{List, _++_};
+ghost use Prim.Native.Nat.{ℕ, _≤_};
 ghost use Rattle.recording.specs.Load.{causeFor};
-ghost use Rattle.verdict.specs.Answer.{refuses};
-ghost use Rattle.verdict.specs.declared.Answer.the-variants.{Allowed};
+ghost use Rattle.recording.specs.Input.{ReadOf};
+ghost use Rattle.verdict.specs.Answer.{answers};
 ghost use Rattle.translation.specs.Answer.{translation};
 ghost use Rattle.lines.specs.Put.{bytes};
 ghost use Rattle.judgement.specs.Judgement.{OnSource, OnChip, Prints};
@@ -28,17 +28,6 @@ pub struct Lines {
     pub second: Text,
 }
 
-// Refused with the number k.
-fn refused(k: u8) -> Verdict
-    ensures { λ r. ⌜ (r .answer ≡ refuses k) × (r .len ≡ 0) ⌝ }
-{
-    Verdict {
-        answer: Answer::Refused(k),
-        at: [0u8; 64],
-        len: 0,
-    }
-}
-
 // The verdict on the translation of a source file that loads, and what is shown of it. A translation has at most 1320 bytes, and loads.
 pub fn chip(file: &[u8]) -> Verdict
     requires { ⌜ causeFor 1 (now file) ≡ 0 ⌝ }
@@ -46,7 +35,7 @@ pub fn chip(file: &[u8]) -> Verdict
 {
     let mut bytes = [0u8; 1320];
     match translation::written(file, &mut bytes) {
-        Translation::Refused(k) => refused(k),
+        Translation::Refused(k) => verdict::refused(k),
         Translation::Written(n) => armv8::file::loaded(&bytes[..n]),
     }
 }
@@ -56,7 +45,7 @@ pub fn both(file: &[u8]) -> Verdicts
     requires { ⌜ causeFor 1 (now file) ≡ 0 ⌝ }
     ensures source { λ r. ⌜ OnSource (now (file .entry)) (r .source) ⌝ }
     ensures chip { λ r. ⌜ OnChip (translation (now (file .entry))) (r .chip) ⌝ }
-    ensures sound { λ r. ⌜ (r .chip .answer ≡ Allowed → r .source .answer ≡ Allowed) ⌝ }
+    ensures sound { λ r. ⌜ (r .chip .answer ≡ answers 0 → r .source .answer ≡ answers 0) ⌝ }
 {
     Verdicts {
         source: imm::file::loaded(file),
@@ -86,7 +75,7 @@ pub fn printed(file: &[u8]) -> Lines
 {
     let answer = causes::load(file);
     let Load::Loaded(h) = answer else {
-        return single(lines::line(true, refused(causes::number(answer))));
+        return single(lines::line(true, verdict::refused(causes::number(answer))));
     };
     let kind = h.kind;
     if kind == 1 {
@@ -96,4 +85,13 @@ pub fn printed(file: &[u8]) -> Lines
         return Lines { first, second };
     }
     single(lines::line(true, armv8::file::loaded(file)))
+}
+
+// The lines that the judge prints of an input, of which the first n bytes of `start` were read.
+pub fn of_input(start: [u8; INPUT], n: usize) -> Lines
+    requires { ⌜ n ≤ 1413 ⌝ }
+    ensures prints { λ r. ⌜ ((input : List ℕ) → ReadOf input start n → Prints input (bytes (r .first) ++ bytes (r .second))) ⌝ }
+    ensures bounded { λ r. ⌜ (r .first .len ≤ 320) × (r .second .len ≤ 320) ⌝ }
+{
+    printed(&start[..n])
 }

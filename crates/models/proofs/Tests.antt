@@ -70,6 +70,11 @@ unfolding below
 below-listed zero e h = absurd (not-suc-le-zero h)
 below-listed (suc n) e h = elim (ℕ-discrete e n) [ yes p ↦ List·Memᴰ·head p | no p ↦ List·Memᴰ·tail (below-listed n e (omega arith)) ]
 
+pub listed-below : (n e : ℕ) → List·Memᴰ e (below n) → e < n
+unfolding below
+listed-below (suc n) e (List·Memᴰ·head p) = omega (arith, p)
+listed-below (suc n) e (List·Memᴰ·tail m) = (let h = listed-below n e m in omega arith)
+
 -- `plus`, Warshall's rounds: it holds r; at the listed events it is closed under joining; it holds nothing but steps of r.
 pub plus-one : (ks : List ℕ) (r : Rel) (i j : ℕ) → T (r i j) → T (plus ks r i j)
 unfolding plus through

@@ -2,20 +2,19 @@
 use mathlib.Core.Path.{_≡_, refl, sym, ap, ap₂, _∙_}
 use mathlib.Core.Bool.{Bool, true, false, not, _||_, false≢true}
 use mathlib.Core.List.{List, [], _∷_}
-use Prim.Native.Nat.{ℕ, _+_, _*_, _<_, _≤_}
+use mathlib.Core.Logic.{_⊎_, inl, inr}
+use Prim.Native.Nat.{ℕ, suc, _+_, _*_, _<_, _≤_}
 use native.Mathlib.Omega.{arith}
+use native.Mathlib.Decide.{decLt}
 use borrow.Author.Tests.{le-ltb, ltb-false, ne-eqb}
 use lib.Dec.{eqb, ltb}
 use lib.ListN.{length, take}
-use lib.Seq.{getD-take, length-take-le}
+use lib.Seq.{getD-take, length-take-le, take-all}
 use Rattle.models.specs.Rules.{first}
 use Rattle.recording.specs.Layout.{kind, events, locations, links, kindKnown, isSource, mostEvents, mostLinks, fullLength}
 use Rattle.recording.specs.Causes.{headerOver, tooShort, kindUnknown, overLimit, wrongLength, headerCauses, bodyCauses, refusal}
+use Rattle.recording.specs.Input.{longest}
 use Rattle.recording.proofs.CauseLaws.{first-here, first-skip}
-
--- The longest file that loads: kind 2, 48 events and 255 links.
-abbrev pub longest : ℕ
-longest = 1412
 
 -- The number that a file longer than that gets: it passes cause 1 and is stopped by 2, 3 or 4.
 unfoldable pub overlong : ℕ → ℕ → ℕ → ℕ → ℕ
@@ -72,3 +71,19 @@ stream f h =
     same : overlong (kind f) (events f) (locations f) (links f)
         ≡ overlong (kind (take (longest + 1) f)) (events (take (longest + 1) f)) (locations (take (longest + 1) f)) (links (take (longest + 1) f))
     same = rw (getD-take (longest + 1) f 0 0 (omega arith), getD-take (longest + 1) f 1 0 (omega arith), getD-take (longest + 1) f 2 0 (omega arith), getD-take (longest + 1) f 3 0 (omega arith))
+
+-- So what is read of an input is the whole of it, or is refused as the whole is.
+pub read-of : (f : List ℕ) → (take (longest + 1) f ≡ f) ⊎ ((n : ℕ) × (refusal f ≡ suc n) × (refusal (take (longest + 1) f) ≡ suc n))
+unfolding overlong first
+read-of f =
+    elim (decLt longest (length f)) [
+      | yes h ↦ let (n, e) = refused (not (kindKnown (kind f))) (headerOver (kind f) (events f) (locations f) (links f)) in
+          let all : refusal f ≡ suc n = refusal-overlong f h ∙ e in
+          inr (n, all, sym (stream f h) ∙ all)
+      | no h ↦ inl (take-all (longest + 1) f (omega (arith, h)))
+    ]
+  where
+    refused : (u v : Bool) → (n : ℕ) × (first 2 (u ∷ v ∷ true ∷ []) ≡ suc n)
+    refused true v = (1, refl)
+    refused false true = (2, refl)
+    refused false false = (3, refl)

@@ -4,4 +4,5 @@ pub mod Chains
 pub mod Decode
 pub mod Causes
 pub mod Load
+pub mod Input
 pub mod Sets

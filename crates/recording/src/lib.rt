@@ -17,6 +17,9 @@ pub struct Header {
     pub links: usize,
 }
 
+// A program reads at most so many bytes of its input: one more than the longest file that loads has (specs/Input.antt).
+pub const INPUT: usize = 1413;
+
 // What loading answers.
 pub enum Load {
     Refused(u8),

@@ -11,8 +11,8 @@ use borrow.Author.Tests.{lt-ltb, le-ltb, eq-eqb, ne-eqb}
 use lib.Dec.{ltb, eqb}
 use lib.ListN.{length, take, set, length-set}
 use lib.Seq.{take-suc-set, take-set-le}
-use Rattle.relation.specs.Rel.{Set, Rel, Next, single, intersection, difference, inverse, image, least, count, plus, nodes}
-use Rattle.relation.specs.Order.{ready, order}
+use Rattle.relation.specs.Rel.{Set, Rel, single, intersection, difference, inverse, image, least, count, plus, nodes}
+use Rattle.relation.specs.Order.{ready, order, occurrences, EachOnce}
 use Rattle.relation.proofs.SetLaws.{and-false, and-true, Least, least-is, least-at, least-none, least-lt}
 use Rattle.relation.proofs.GridLaws.{inverse-back}
 use Rattle.relation.proofs.Meaning.{Mem, here, there, Steps, one, more, steps-join, and-left, and-right, and-both, mem-below, below-mem, image-sound, image-complete, plus-complete}
@@ -36,72 +36,40 @@ order-stop (suc n) r s h = rw (le-ltb (least 64 (ready r s)) 64 h, order)
 pub order-inverse : (r b : Rel) (s : Set) → b ≡ inverse r → order 64 (inverse b) s ≡ order 64 r s
 order-inverse r b s e = ap (λ (f : Rel). order 64 f s) (inverse-back b r e)
 
--- The search for the smallest ready event, where b k is the set of the events before k:
--- k is in s or is 64, and no event below k is ready.
-pub record Seeking (b : Rel) (s : Set) (k : ℕ) : Type 0 where
-  pub high : k ≤ 64
-  pub member : k < 64 → s k ≡ true
-  pub passed : (m : ℕ) → m < k → ready (inverse b) s m ≡ false
-
-not-ready : (b : Rel) (s : Set) (m : ℕ) → s m ≡ false → ready (inverse b) s m ≡ false
+-- The search for the smallest ready event, where b k is the set of the events before k.
+pub not-ready : (b : Rel) (s : Set) (m : ℕ) → s m ≡ false → ready (inverse b) s m ≡ false
 unfolding ready difference
 not-ready b s m e = ap (λ (x : Bool). x && not (image nodes s (inverse b) m)) e
 
-module _ (b : Rel) (s : Set) (k : ℕ) where
-  pub seeking-first : k ≡ least 64 s → Seeking b s k
-  seeking-first e =
-      let l : Least 64 s k = subst (Least 64 s) (sym e) (least-is 64 s) in
-      record { high = l .bound; member = l .member; passed = λ m h. not-ready b s m (l .smaller m h) }
+-- t is what is both before k and in s, and f its least member.
+module _ (b : Rel) (s : Set) (k : ℕ) (t : Set) (f : ℕ) (meet : t ≡ intersection (b k) s) (least-of : f ≡ least 64 t) where
+  meets : Least 64 (intersection (b k) s) f
+  meets = subst (λ (u : Set). Least 64 u f) meet (subst (Least 64 t) (sym least-of) (least-is 64 t))
 
-  pub seeking-none : Seeking b s k → 64 ≤ k → k ≡ least 64 (ready (inverse b) s)
-  seeking-none w h =
-      let e : k ≡ 64 = omega (arith, w .high) in
-      e ∙ sym (least-none 64 (ready (inverse b) s) (λ m g. w .passed m (omega arith)))
+  preceded-by : f < 64 → image nodes s (inverse b) k ≡ true
+  unfolding intersection inverse
+  preceded-by h =
+      let both = meets .member h in
+      image-complete nodes s (inverse b) f k (mem-below 64 f h) (and-right (b k f) (s f) both) (and-left (b k f) (s f) both)
 
-  -- t is what is both before k and in s, and f its least member.
-  module _ (w : Seeking b s k) (lt : k < 64) (t : Set) (f : ℕ) (meet : t ≡ intersection (b k) s) (least-of : f ≡ least 64 t) where
-    meets : Least 64 (intersection (b k) s) f
-    meets = subst (λ (u : Set). Least 64 u f) meet (subst (Least 64 t) (sym least-of) (least-is 64 t))
+  unpreceded : 64 ≤ f → image nodes s (inverse b) k ≡ false
+  unfolding intersection inverse
+  unpreceded h = go (image nodes s (inverse b) k) refl
+    where
+      go : (x : Bool) → image nodes s (inverse b) k ≡ x → image nodes s (inverse b) k ≡ false
+      go false e = e
+      go true e =
+          let (i, m, p, q) = image-sound nodes s (inverse b) k e in
+          let low : i < 64 = below-mem 64 i m in
+          absurd (false≢true (sym (meets .smaller i (omega arith)) ∙ and-both (b k i) (s i) q p))
 
-    preceded-by : f < 64 → image nodes s (inverse b) k ≡ true
-    unfolding intersection inverse
-    preceded-by h =
-        let both = meets .member h in
-        image-complete nodes s (inverse b) f k (mem-below 64 f h) (and-right (b k f) (s f) both) (and-left (b k f) (s f) both)
+  pub preceded-not-ready : (f ≡ 64 → ⊥) → ready (inverse b) s k ≡ false
+  unfolding ready difference
+  preceded-not-ready d = ap (λ (x : Bool). s k && not x) (preceded-by (omega (arith, d, meets .bound))) ∙ and-false (s k)
 
-    unpreceded : 64 ≤ f → image nodes s (inverse b) k ≡ false
-    unfolding intersection inverse
-    unpreceded h = go (image nodes s (inverse b) k) refl
-      where
-        go : (x : Bool) → image nodes s (inverse b) k ≡ x → image nodes s (inverse b) k ≡ false
-        go false e = e
-        go true e =
-            let (i, m, p, q) = image-sound nodes s (inverse b) k e in
-            let low : i < 64 = below-mem 64 i m in
-            absurd (false≢true (sym (meets .smaller i (omega arith)) ∙ and-both (b k i) (s i) q p))
-
-    preceded-not-ready : f < 64 → ready (inverse b) s k ≡ false
-    unfolding ready difference
-    preceded-not-ready h = ap (λ (x : Bool). s k && not x) (preceded-by h) ∙ and-false (s k)
-
-    pub seeking-next : (f ≡ 64 → ⊥) → (n : ℕ) → Next s (k + 1) n → Seeking b s n
-    seeking-next d n next =
-        record { high = next .high; member = next .member; passed = passed }
-      where
-        passed : (m : ℕ) → m < n → ready (inverse b) s m ≡ false
-        passed m h =
-            elim (decLt m k) [
-              | yes g ↦ w .passed m g
-              | no g ↦ elim (ℕ-discrete m k) [
-                | yes e ↦ ap (ready (inverse b) s) e ∙ preceded-not-ready (omega (arith, d, meets .bound))
-                | no d′ ↦ not-ready b s m (next .before m (omega (arith, g, d′)) h)
-              ]
-            ]
-
-    pub seeking-found : f ≡ 64 → k ≡ least 64 (ready (inverse b) s)
-    unfolding ready difference
-    seeking-found e =
-        sym (least-at 64 (ready (inverse b) s) k lt (and-both (s k) _ (w .member lt) (ap not (unpreceded (omega arith)))) (w .passed))
+  pub unpreceded-ready : f ≡ 64 → s k ≡ true → ready (inverse b) s k ≡ true
+  unfolding ready difference
+  unpreceded-ready e p = and-both (s k) _ p (ap not (unpreceded (omega arith)))
 
 -- n events are out, and the order of those that are left follows them.
 pub record Out (r : Rel) (s : Set) (at : List ℕ) (n : ℕ) (left : Set) : Type 0 where
@@ -263,32 +231,54 @@ module _ (r : Rel) (s : Set) (within : Inside r) (none : 64 ≤ least 64 (ready 
             (subst (λ (y : ℕ). Steps r y (back x a)) (sym (t .same)) around),
       )
 
--- Where r has no ring, every event of s comes out.
+-- Where r has no ring, every event of s comes out, once.
 ready-in : (r : Rel) (s : Set) → least 64 (ready r s) < 64 → s (least 64 (ready r s)) ≡ true
 unfolding ready difference
 ready-in r s q = and-left _ _ (least-is 64 (ready r s) .member q)
 
-head-or-rest : (n : ℕ) (r : Rel) (s : Set) (j k : ℕ) → s j ≡ true → k < 64 → s k ≡ true
-    → (difference s (single k) j ≡ true → Mem j (order n r (difference s (single k)))) → Mem j (k ∷ order n r (difference s (single k)))
-head-or-rest n r s j k p h q rest =
-    elim (ℕ-discrete j k) [
-      | yes e ↦ subst (λ (i : ℕ). Mem j (i ∷ order n r (difference s (single k)))) e here
-      | no d ↦ there (rest (without-other s k j (λ e. d (sym e)) ∙ p))
-    ]
+none-once : (s : Set) → ((e : ℕ) → s e ≡ false) → EachOnce s []
+unfolding occurrences
+none-once s none e = rw (none e)
 
-out-by : (r : Rel) → Inside r → ((y : ℕ) → plus nodes r y y ≡ false) → (n : ℕ) (s : Set) → count 64 s ≤ n → (j : ℕ) → j < 64
-    → s j ≡ true → Mem j (order n r s)
-out-by r within acyclic zero s c j h p = let w = count-member 64 s j h p in absurd (omega arith)
-out-by r within acyclic (suc n) s c j h p =
+one-once : (s : Set) (k : ℕ) (l : List ℕ) → s k ≡ true → EachOnce (difference s (single k)) l → EachOnce s (k ∷ l)
+unfolding occurrences
+one-once s k l p rest e =
+    elim (ℕ-discrete e k) [
+      | yes q ↦ rw (eq-eqb e k q, occurrences, ap s q ∙ p)
+          (ap suc (rest e ∙ ap numeral (ap (difference s (single k)) q ∙ without-self s k)))
+      | no d ↦ rw (ne-eqb e k d, occurrences)
+          (rest e ∙ ap numeral (without-other s k e (λ q. d (sym q))))
+    ]
+  where
+    numeral : Bool → ℕ
+    numeral b = elim b [ true ↦ 1 | false ↦ 0 ]
+
+-- A set without members below 64 or from 64 on.
+nowhere : (s : Set) → ((j : ℕ) → 64 ≤ j → s j ≡ false) → ((j : ℕ) → j < 64 → s j ≡ true → ⊥) → (e : ℕ) → s e ≡ false
+nowhere s high low e = elim (decLt e 64) [ yes h ↦ go (s e) refl h | no h ↦ high e (omega (arith, h)) ]
+  where
+    go : (b : Bool) → s e ≡ b → e < 64 → s e ≡ false
+    go false q h = q
+    go true q h = absurd (low e h q)
+
+once-by : (r : Rel) → Inside r → ((y : ℕ) → plus nodes r y y ≡ false) → (n : ℕ) (s : Set) → ((j : ℕ) → 64 ≤ j → s j ≡ false)
+    → count 64 s ≤ n → EachOnce s (order n r s)
+unfolding order
+once-by r within acyclic zero s high c =
+    none-once s (nowhere s high (λ j h p. let w = count-member 64 s j h p in omega arith))
+once-by r within acyclic (suc n) s high c =
     let k : ℕ = least 64 (ready r s) in
     elim (decLt k 64) [
       | yes q ↦ let member : s k ≡ true = ready-in r s q in
           let fewer : suc (count 64 (difference s (single k))) ≡ count 64 s = count-without 64 s k q member in
-          rw (order-next n r s k refl q)
-          (head-or-rest n r s j k p q member (out-by r within acyclic n (difference s (single k)) (omega arith) j h))
-      | no q ↦ let (y, e) = no-ready-ring r s within (omega (arith, q)) j h p in absurd (false≢true (sym (acyclic y) ∙ e))
+          subst (EachOnce s) (sym (order-next n r s k refl q))
+          (one-once s k (order n r (difference s (single k))) member
+          (once-by r within acyclic n (difference s (single k)) (λ j h. without-other s k j (omega arith) ∙ high j h) (omega arith)))
+      | no q ↦ subst (EachOnce s) (sym (order-stop (suc n) r s (omega (arith, q))))
+          (none-once s
+          (nowhere s high (λ j h p. let (y, e) = no-ready-ring r s within (omega (arith, q)) j h p in false≢true (sym (acyclic y) ∙ e))))
     ]
 
-pub all-out : (r : Rel) → Inside r → ((y : ℕ) → plus nodes r y y ≡ false) → (s : Set) (j : ℕ) → j < 64 → s j ≡ true
-    → Mem j (order 64 r s)
-all-out r within acyclic s = out-by r within acyclic 64 s (count-bound 64 s)
+pub each-once : (r : Rel) → Inside r → ((y : ℕ) → plus nodes r y y ≡ false) → (s : Set) → ((j : ℕ) → 64 ≤ j → s j ≡ false)
+    → EachOnce s (order 64 r s)
+each-once r within acyclic s high = once-by r within acyclic 64 s high (count-bound 64 s)

@@ -9,7 +9,7 @@ use native.Mathlib.Omega.{arith}
 use native.Mathlib.Decide.{ℕ-discrete, decLt}
 use borrow.Author.Tests.{eq-eqb, ne-eqb, lt-ltb, le-ltb}
 use lib.Dec.{eqb, ltb}
-use Rattle.relation.specs.Rel.{Set, Rel, empty, single, given, union, some, image, least, count, below}
+use Rattle.relation.specs.Rel.{Set, Rel, Next, empty, single, given, union, some, image, least, count, below}
 use Rattle.relation.specs.Ring.{under}
 
 pub or-comm : (a b : Bool) → a || b ≡ b || a
@@ -89,6 +89,40 @@ least-lt n s k h t =
       | yes g ↦ absurd (false≢true (sym (least-is n s .smaller k g) ∙ t))
       | no g ↦ omega (arith, g)
     ]
+
+-- The search for the least member of p, a part of s, from member to member of s: k is in s or is 64, and no number below k is in p.
+pub record Seeking (s p : Set) (k : ℕ) : Type 0 where
+  pub high : k ≤ 64
+  pub member : k < 64 → s k ≡ true
+  pub passed : (m : ℕ) → m < k → p m ≡ false
+
+-- Start, one member more, and the two ends.
+module _ (s p : Set) (part : (m : ℕ) → s m ≡ false → p m ≡ false) where
+  pub seeking-first : (k : ℕ) → k ≡ least 64 s → Seeking s p k
+  seeking-first k e =
+      let l : Least 64 s k = subst (Least 64 s) (sym e) (least-is 64 s) in
+      record { high = l .bound; member = l .member; passed = λ m h. part m (l .smaller m h) }
+
+  pub seeking-next : (k : ℕ) → Seeking s p k → p k ≡ false → (n : ℕ) → Next s (k + 1) n → Seeking s p n
+  seeking-next k w e n next = record { high = next .high; member = next .member; passed = passed }
+    where
+      passed : (m : ℕ) → m < n → p m ≡ false
+      passed m h =
+          elim (decLt m k) [
+            | yes g ↦ w .passed m g
+            | no g ↦ elim (ℕ-discrete m k) [
+              | yes q ↦ ap p q ∙ e
+              | no d ↦ part m (next .before m (omega (arith, g, d)) h)
+            ]
+          ]
+
+pub seeking-none : (s p : Set) (k : ℕ) → Seeking s p k → 64 ≤ k → k ≡ least 64 p
+seeking-none s p k w h =
+    let e : k ≡ 64 = omega (arith, w .high) in
+    e ∙ sym (least-none 64 p (λ m g. w .passed m (omega arith)))
+
+pub seeking-found : (s p : Set) (k : ℕ) → Seeking s p k → k < 64 → p k ≡ true → k ≡ least 64 p
+seeking-found s p k w h e = sym (least-at 64 p k h e (w .passed))
 
 -- Sets filled number by number: the numbers of s below k.
 unfoldable pub upto : ℕ → Set → Set

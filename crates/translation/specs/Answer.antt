@@ -26,8 +26,8 @@ cause f room =
 
 -- Refused with the number where a cause applies, else the length written.
 unfoldable pub answer : ℕ → ℕ → Translation
-answer zero length = Written length
-answer (suc n) length = Refused (suc n)
+answer zero size = Written size
+answer (suc n) size = Refused (suc n)
 
 unfoldable pub translationOf : List ℕ → ℕ → Translation
 translationOf f room = answer (cause f room) (length (translation f))

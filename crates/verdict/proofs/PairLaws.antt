@@ -3,12 +3,11 @@ use mathlib.Core.Path.{_≡_, refl, sym, ap, ap₂, _∙_, fun-ext}
 use mathlib.Core.Bool.{Bool, true, false, not, _&&_, _||_, false≢true}
 use Prim.Native.Nat.{ℕ, _+_, _<_, _≤_}
 use native.Mathlib.Omega.{arith}
-use borrow.Author.Count.{below-more}
 use borrow.Author.Tests.{lt-ltb}
 use lib.Dec.{eqb, ltb}
-use Rattle.relation.specs.Rel.{Set, Rel, union, intersection, difference, either, inverse, identity, optional, some, image, least, nodes}
+use Rattle.relation.specs.Rel.{Set, Rel, Next, union, intersection, difference, either, inverse, identity, optional, some, image, least, nodes}
 use Rattle.relation.specs.Ring.{under}
-use Rattle.relation.proofs.SetLaws.{least-at, least-none, least-is}
+use Rattle.relation.proofs.SetLaws.{and-false, least-is, Seeking, seeking-first, seeking-next, seeking-none, seeking-found}
 use Rattle.relation.proofs.Meaning.{and-right, and-both, mem-below, below-mem, some-sound, some-complete}
 use Rattle.models.specs.Recording.{R, W}
 use Rattle.models.specs.Graph.{Base}
@@ -57,19 +56,9 @@ unread-is reads all seen out rf a s o B p q =
     (ap (λ (f : Set). f r) s ∙ ap (λ (f : Set). some nodes (λ i. f i && rf i r)) a ∙ some-under (λ w. rf w r)
     ∙ ap (λ (f : Rel). some nodes (λ w. f w r)) q))
 
--- What the search goes through: b is a write of a's location that is not settled with a.
+-- What the search is for: b is a write of a's location that is not settled with a.
 unfoldable pub unsettled-of : Set → Rel → Rel → Rel
 unsettled-of writes loc settled a b = writes a && difference (intersection writes (loc a)) (settled a) b
-
-pub unsettled-no : (writes : Set) (loc settled : Rel) (a : ℕ) → writes a ≡ false → (x : ℕ) → unsettled-of writes loc settled a x ≡ false
-unfolding unsettled-of
-unsettled-no writes loc settled a p x = rw p
-
-pub unsettled-yes : (writes peers left : Set) (loc settled : Rel) (a : ℕ) → writes a ≡ true → peers ≡ intersection writes (loc a) → left ≡ difference peers (settled a)
-    → (x : ℕ) → unsettled-of writes loc settled a x ≡ left x
-unfolding unsettled-of
-unsettled-yes writes peers left loc settled a p q r x =
-    rw p (sym (ap (λ (f : Set). f x) (r ∙ ap (λ (f : Set). difference f (settled a)) q)))
 
 pub unordered-is : (writes : Set) (loc co back joined settled : Rel) → back ≡ inverse co → joined ≡ either co back → settled ≡ optional writes joined
     → (B : Base) → writes ≡ B .set W → loc ≡ B .loc → co ≡ B .co → unsettled-of writes loc settled ≡ unordered nodes B
@@ -92,32 +81,58 @@ unordered-is writes loc co back joined settled e f g B p q r =
         before-or x true = refl
         before-or x false = refl
 
--- No event below a has a pair of r.
-pub record Passed (r : Rel) (a : ℕ) : Type 0 where
-  pub bound : a ≤ 64
-  pub none : (m : ℕ) → m < a → (x : ℕ) → x < 64 → r m x ≡ false
+-- The search goes through the writes a for one with an unsettled peer, and through the peers b of a for an unsettled one.
+module _ (writes : Set) (loc settled : Rel) where
+  abbrev has-unsettled : Set
+  has-unsettled a = some nodes (unsettled-of writes loc settled a)
 
-pub passed-none : (r : Rel) → Passed r 0
-passed-none r = record { bound = omega arith; none = λ m h. absurd (omega arith) }
+  abbrev pub Passing : ℕ → Type 0
+  Passing a = Seeking writes has-unsettled a
 
-pub passed-more : (r : Rel) (a : ℕ) → Passed r a → a < 64 → ((x : ℕ) → x < 64 → r a x ≡ false) → Passed r (a + 1)
-passed-more r a w h f = record { bound = omega arith; none = below-more _ a (w .none) f }
+  no-write : (a : ℕ) → writes a ≡ false → has-unsettled a ≡ false
+  unfolding unsettled-of
+  no-write a e = none-some _ (λ x h. rw e)
 
-pub passed-found : (r : Rel) (a b : ℕ) → Passed r a → a < 64 → b < 64 → r a b ≡ true → ((m : ℕ) → m < b → r a m ≡ false) → FirstPair r a b
-unfolding firstOf secondOf
-passed-found r a b w h g p f =
-    let first : a ≡ least 64 (λ a. some nodes (r a))
-    = sym (least-at 64 (λ a. some nodes (r a)) a h (some-complete nodes (r a) b (mem-below 64 b g) p) (λ m q. none-some (r m) (w .none m q))) in
-    record { first = first; second = λ q. sym (least-at 64 (r a) b g p f) ∙ ap (λ (k : ℕ). least 64 (r k)) first }
+  pub pairs-first : (a : ℕ) → a ≡ least 64 writes → Passing a
+  pairs-first = seeking-first writes has-unsettled no-write
 
-pub passed-all : (r : Rel) (a b : ℕ) → Passed r a → 64 ≤ a → FirstPair r a b
-unfolding firstOf
-passed-all r a b w h =
-    let end : a ≡ 64 = omega (arith, w .bound) in
-    record {
-      first = end ∙ sym (least-none 64 (λ a. some nodes (r a)) (λ m q. none-some (r m) (w .none m (omega arith))));
-      second = λ q. absurd (omega arith);
-    }
+  pub pairs-none : (a b : ℕ) → Passing a → 64 ≤ a → FirstPair (unsettled-of writes loc settled) a b
+  unfolding firstOf
+  pairs-none a b w h = record { first = seeking-none writes has-unsettled a w h; second = λ q. absurd (omega arith) }
+
+  -- In a's turn: b goes through its peers.
+  module _ (a : ℕ) (w : Passing a) (lt : a < 64) (peers ordered : Set) (p : peers ≡ intersection writes (loc a)) (q : ordered ≡ settled a)
+      (b : ℕ) (v : Seeking peers (difference peers ordered) b) where
+    unsettled-is : difference peers ordered ≡ unsettled-of writes loc settled a
+    unfolding unsettled-of
+    unsettled-is = fun-ext (λ x. rw (w .member lt) (ap (λ (f : Set). f x) (ap₂ difference p q)))
+
+    pub pairs-next : 64 ≤ b → (n : ℕ) → Next writes (a + 1) n → Passing n
+    pairs-next h =
+        let all : b ≡ least 64 (unsettled-of writes loc settled a) = seeking-none peers _ b v h ∙ ap (least 64) unsettled-is in
+        seeking-next writes has-unsettled no-write a w (some-above _ (omega arith))
+
+    pub pairs-found : b < 64 → ordered b ≡ false → FirstPair (unsettled-of writes loc settled) a b
+    unfolding firstOf secondOf difference
+    pairs-found h e =
+        let here : difference peers ordered b ≡ true = and-both (peers b) (not (ordered b)) (v .member h) (ap not e) in
+        let there : unsettled-of writes loc settled a b ≡ true = ap (λ (f : Set). f b) (sym unsettled-is) ∙ here in
+        let first : a ≡ firstOf (unsettled-of writes loc settled)
+        = seeking-found writes has-unsettled a w lt (some-complete nodes _ b (mem-below 64 b h) there) in
+        record {
+          first = first;
+          second = λ g. seeking-found peers (difference peers ordered) b v h here
+              ∙ ap (least 64) unsettled-is ∙ ap (λ (k : ℕ). least 64 (unsettled-of writes loc settled k)) first;
+        }
+
+-- Where b is no peer it is not an unsettled one; where it is ordered neither.
+pub no-peer : (peers ordered : Set) (b : ℕ) → peers b ≡ false → difference peers ordered b ≡ false
+unfolding difference
+no-peer peers ordered b e = ap (λ (x : Bool). x && not (ordered b)) e
+
+pub ordered-peer : (peers ordered : Set) (b : ℕ) → ordered b ≡ true → difference peers ordered b ≡ false
+unfolding difference
+ordered-peer peers ordered b e = ap (λ (x : Bool). peers b && not x) e ∙ and-false (peers b)
 
 -- The first pair by the set of events that r leads from.
 pub first-of : (r back : Rel) (all from : Set) (a : ℕ) → all ≡ under 64 → back ≡ inverse r → from ≡ image nodes all back → a ≡ least 64 from → a ≡ firstOf r

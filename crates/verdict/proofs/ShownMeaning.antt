@@ -1,4 +1,4 @@
--- What a verdict says and shows means: the rules of the execution graph; every event where it is allowed;
+-- What a verdict says and shows means: the rules of the execution graph; every event exactly once where it is allowed;
 -- and what breaks rule 1, 2 or 4 where it is that. Assumes nothing.
 use mathlib.Core.Path.{_≡_, refl, sym, ap, subst, _∙_}
 use mathlib.Core.Bool.{Bool, true, false, false≢true}
@@ -6,22 +6,28 @@ use mathlib.Core.List.{List, [], _∷_}
 use mathlib.Core.Logic.{_⊎_, inl, inr, _↔_}
 use Prim.Native.Nat.{ℕ, zero, suc, _+_, _<_, _≤_}
 use native.Mathlib.Omega.{arith}
+use lib.Dec.{T}
 use Rattle.relation.specs.Rel.{Set, Rel, some, least, diagonal, plus, nodes}
+use Rattle.relation.specs.Order.{EachOnce}
 use Rattle.relation.proofs.SetLaws.{least-is, least-lt}
-use Rattle.relation.proofs.Meaning.{Mem, Steps, one, more, mem-below, below-mem, some-sound, some-complete, plus-sound}
+use Rattle.relation.proofs.Meaning.{Steps, one, more, mem-below, below-mem, some-sound, some-complete, plus-sound}
 use Rattle.relation.proofs.Walks.{Inside}
-use Rattle.relation.proofs.OrderLaws.{all-out}
-use Rattle.models.specs.Recording.{Recording}
+use Rattle.relation.proofs.OrderLaws.{each-once}
+use Rattle.models.specs.Recording.{Recording, event}
 use Rattle.models.specs.Graph.{Base, graph, base, Within}
-use Rattle.models.specs.Term.{eval}
+use Rattle.models.specs.Term.{Term, eval}
 use Rattle.models.specs.Rules as models
 use Rattle.models.specs.Rules.{Model, broken-pair, first, anywhere, unread, unordered, failures, verdict}
-use Rattle.models.proofs.Agree.{recording-verdict, recording-allowed}
+use Rattle.models.proofs.Tests.{listed-below}
+use Rattle.models.proofs.Agree.{tests, agrees, recording-verdict, recording-allowed}
 use Rattle.verdict.specs.declared.Verdict.{Verdict}
 use Rattle.verdict.specs.Answer.{answers}
 use Rattle.verdict.specs.Shown.{firstOf, secondOf, events, Shown}
 use Rattle.verdict.proofs.PairLaws.{fails}
 use Rattle.verdict.proofs.ShownLaws.{nth}
+
+holds : (b : Bool) → b ≡ true → T b
+holds b e = subst T (sym e) tt
 
 first-from : (n : ℕ) (bs : List Bool) → (first n bs ≡ 0) ⊎ (n ≤ first n bs)
 unfolding first
@@ -78,12 +84,12 @@ module _ (M : Model) (B : Base) where
   unfolding verdict failures nth
   pair-shown e = pair-there (eval nodes broken-pair B) (first-passes 1 3 (failures nodes B M) (omega arith) e)
 
-  -- An allowed verdict shows every event.
-  pub all-shown : (steps closing : Rel) (v : Verdict) → Shown steps closing M B v → verdict nodes B M ≡ 0 → Inside (eval nodes (M .order) B)
-      → (j : ℕ) → j < 64 → B .E j ≡ true → Mem j (events v)
+  -- An allowed verdict shows every event exactly once.
+  all-shown : (steps closing : Rel) (v : Verdict) → Shown steps closing M B v → verdict nodes B M ≡ 0 → Inside (eval nodes (M .order) B)
+      → ((j : ℕ) → 64 ≤ j → B .E j ≡ false) → EachOnce (B .E) (events v)
   unfolding verdict failures nth eval diagonal
-  all-shown steps closing v w e inside j h p =
-      subst (Mem j) (sym (w .allowed e)) (all-out (eval nodes (M .order) B) inside acyclic (B .E) j h p)
+  all-shown steps closing v w e inside high =
+      subst (EachOnce (B .E)) (sym (w .allowed e)) (each-once (eval nodes (M .order) B) inside acyclic (B .E) high)
     where
       acyclic : (y : ℕ) → plus nodes (eval nodes (M .order) B) y y ≡ false
       acyclic y =
@@ -91,6 +97,28 @@ module _ (M : Model) (B : Base) where
           (λ q. false≢true
           (sym (first-fails 1 4 (failures nodes B M) (omega arith) e)
           ∙ some-complete nodes (diagonal (plus nodes (eval nodes (M .order) B))) y (mem-below 64 y (steps-target inside (plus-sound nodes _ y y q))) q))
+
+-- The events of a recording are below 64, and every term relates events.
+module _ (r : Recording ℕ) (within : Within nodes r) where
+  event-below : (e : ℕ) → T (event r e) → e < 64
+  event-below e h = listed-below 64 e (within .listed e h)
+
+  term-inside : (t : Term) → Inside (eval nodes t (base nodes r))
+  unfolding base
+  term-inside t =
+      let tested = tests nodes (base nodes r) (graph r) (agrees nodes r within) t in
+      record {
+        source = λ x y h. event-below x (tested .source x y (tested .to x y (holds _ h)));
+        target = λ x y h. event-below y (tested .target x y (tested .to x y (holds _ h)));
+      }
+
+  no-event-above : (j : ℕ) → 64 ≤ j → event r j ≡ false
+  no-event-above j h = fails (event r j) (λ e. let low = event-below j (holds _ e) in omega arith)
+
+-- The answer of number 0 is that of no other number.
+pub answers-zero : (n : ℕ) → answers n ≡ answers 0 → n ≡ 0
+answers-zero zero e = refl
+answers-zero (suc n) e = cc
 
 -- Over the base of a recording the answer is the model's verdict of its execution graph: allowed exactly where no rule fails.
 module _ (steps closing : Rel) (M : Model) (v : Verdict) (r : Recording ℕ) (within : Within nodes r) (w : Shown steps closing M (base nodes r) v) where
@@ -100,8 +128,10 @@ module _ (steps closing : Rel) (M : Model) (v : Verdict) (r : Recording ℕ) (wi
   pub allowed-means : (v .answer ≡ answers 0) ↔ models.Allowed M (graph r)
   allowed-means =
       let (f, g) = recording-allowed nodes r within M in
-      (λ e. f (zero-of (verdict nodes (base nodes r) M) (sym (w .answer) ∙ e)), λ a. w .answer ∙ ap answers (g a))
-    where
-      zero-of : (n : ℕ) → answers n ≡ answers 0 → n ≡ 0
-      zero-of zero e = refl
-      zero-of (suc n) e = cc
+      (λ e. f (answers-zero (verdict nodes (base nodes r) M) (sym (w .answer) ∙ e)), λ a. w .answer ∙ ap answers (g a))
+
+  pub allowed-shows : v .answer ≡ answers 0 → EachOnce (event r) (events v)
+  unfolding base
+  allowed-shows e =
+      let (f, g) = recording-allowed nodes r within M in
+      all-shown M (base nodes r) steps closing v w (g (allowed-means .0 e)) (term-inside r within (M .order)) (no-event-above r within)

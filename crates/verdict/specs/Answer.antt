@@ -7,7 +7,11 @@ use Rattle.verdict.specs.declared.Answer.the-variants.{Refused, Allowed,
 abbrev pub refuses : ℕ → Answer
 refuses k = Refused k
 
+-- A broken rule has its number.
+abbrev pub breaks : ℕ → Answer
+breaks k = Broken k
+
 -- A verdict has the number 0 where no rule is broken, and else that of the first broken rule ("first broken one named"), as `verdict` of `models`.
 abbrev pub answers : ℕ → Answer
 answers zero = Allowed
-answers (suc k) = Broken (suc k)
+answers (suc k) = breaks (suc k)

@@ -35,21 +35,19 @@ pub fn unordered(writes: Row, loc: Grid, co: Grid) -> Pair
 {
     // Two writes need no order where they are one, or where co orders them.
     let settled = grid::optional(grid::or(co, grid::inverse(co)), writes);
-    let mut a: usize = 0;
-    let mut b: usize = 0;
+    let mut a = row::first(writes);
+    let mut b: usize = 64;
     'pairs: while a < 64 {
-        if row::has(writes, a) {
-            let peers = row::and(writes, loc[a]);
-            let unsettled = row::minus(peers, settled[a]);
-            b = row::first(unsettled);
-            while b < 64 {
-                if row::has(unsettled, b) {
-                    break 'pairs;
-                }
-                b += 1;
+        let peers = row::and(writes, loc[a]);
+        let ordered = settled[a];
+        b = row::first(peers);
+        while b < 64 {
+            if !row::has(ordered, b) {
+                break 'pairs;
             }
+            b = row::next(peers, b + 1);
         }
-        a += 1;
+        a = row::next(writes, a + 1);
     }
     Pair {
         first: a,

@@ -1,5 +1,5 @@
-// The tries of the rules, in order, and what is shown of the first broken one (01, "What is shown").
-// A try gives the verdict where a rule is broken, and else no event; the last one gives the verdict.
+// Checks the rules in order, and shows the first broken one (01, "What is shown").
+// A check gives the verdict where a rule is broken, and is otherwise empty; the last one gives the verdict.
 
 use crate::Answer;
 use crate::Verdict;
@@ -27,13 +27,14 @@ ghost use Rattle.relation.specs.Order.{order};
 ghost use Rattle.models.specs.Graph.{Base};
 ghost use Rattle.models.specs.Term.{eval, frₑ, coₑ};
 ghost use Rattle.models.specs.Rules.{Model};
+ghost use Rattle.verdict.specs.Answer.{breaks, answers};
 ghost use Rattle.verdict.specs.Base.{baseOf};
 ghost use Rattle.verdict.specs.Shown.{Says, events, Hold, Tried, Around, Shown};
 
 // One event of a broken rule.
 fn broken_event(rule: u8, k: usize) -> Verdict
     requires { ⌜ k < 64 ⌝ }
-    ensures { λ r. ⌜ Says r (Answer.Broken rule) (k ∷ []) ⌝ }
+    ensures { λ r. ⌜ Says r (breaks rule) (k ∷ []) ⌝ }
 {
     let mut at = [0u8; 64];
     at[0] = k as u8;
@@ -47,7 +48,7 @@ fn broken_event(rule: u8, k: usize) -> Verdict
 // A pair of a broken rule.
 fn broken_pair(rule: u8, p: Pair) -> Verdict
     requires { ⌜ (p .first ≤ 64) × (p .second ≤ 64) ⌝ }
-    ensures { λ r. ⌜ Says r (Answer.Broken rule) (p .first ∷ p .second ∷ []) ⌝ }
+    ensures { λ r. ⌜ Says r (breaks rule) (p .first ∷ p .second ∷ []) ⌝ }
 {
     let mut at = [0u8; 64];
     at[0] = p.first as u8;
@@ -61,7 +62,7 @@ fn broken_pair(rule: u8, p: Pair) -> Verdict
 
 // A ring of a broken rule.
 fn broken_ring(rule: u8, steps: Grid, closing: Grid) -> Verdict
-    ensures answer { λ r. ⌜ r .answer ≡ Answer.Broken rule ⌝ }
+    ensures answer { λ r. ⌜ r .answer ≡ breaks rule ⌝ }
     ensures bounded { λ r. ⌜ r .len ≤ 64 ⌝ }
     ensures ring { λ r. ⌜ RingOrNone (edge steps) (edge closing) (events r) ⌝ }
 {
@@ -76,7 +77,7 @@ fn broken_ring(rule: u8, steps: Grid, closing: Grid) -> Verdict
 
 // All events in the order that is shown where no rule is broken.
 fn allowed(g: Grid, s: Row) -> Verdict
-    ensures { λ r. ⌜ Says r Answer.Allowed (order 64 (edge g) (bit s)) ⌝ }
+    ensures { λ r. ⌜ Says r (answers 0) (order 64 (edge g) (bit s)) ⌝ }
 {
     let found = order::order(g, s);
     let at = found.at;
@@ -141,14 +142,14 @@ pub fn atomicity(rmw: Grid, fre: Grid, coe: Grid) -> Verdict
     unbroken()
 }
 
-// Rule 5, from its relation, in whose order events are shown where it holds too.
-pub fn acyclicity(order: Grid, events: Row) -> Verdict
-    ensures { λ r. ⌜ ((M : Model) (B : Base) (s c : Rel) → Hold 4 M B → edge order ≡ eval nodes (M .order) B → bit events ≡ B .E
+// Rule 5, from its relation and all events, which are shown in the order of the relation where the rule holds too.
+pub fn acyclicity(before: Grid, all: Row) -> Verdict
+    ensures { λ r. ⌜ ((M : Model) (B : Base) (s c : Rel) → Hold 4 M B → edge before ≡ eval nodes (M .order) B → bit all ≡ B .E
         → Shown s c M B r) ⌝ }
 {
-    let reached = grid::closure(order);
+    let reached = grid::closure(before);
     if row::first(grid::diagonal(reached)) < 64 {
-        return broken_ring(5, order, order);
+        return broken_ring(5, before, before);
     }
-    allowed(order, events)
+    allowed(before, all)
 }

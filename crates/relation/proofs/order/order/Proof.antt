@@ -8,13 +8,14 @@ use lib.ListN.{replicate}
 use Rattle.relation.specs.Rel.{inverse, least}
 use Rattle.relation.specs.Bits.{bit, edge}
 use Rattle.relation.specs.Order.{ready}
-use Rattle.relation.proofs.OrderLaws.{order-inverse, Seeking, seeking-first, seeking-next, seeking-found, seeking-none, Out, out-none, out-more, out-stop, out-all}
+use Rattle.relation.proofs.SetLaws.{Seeking, seeking-first, seeking-next, seeking-found, seeking-none}
+use Rattle.relation.proofs.OrderLaws.{order-inverse, not-ready, preceded-not-ready, unpreceded-ready, Out, out-none, out-more, out-stop, out-all}
 use borrow.Author.Needs.{needs}
 use Rattle.relation.proofs.order.order.Statement.{statement}
 use Rattle.relation.proofs.order.order.Tie as tie
 
 abbrev Inv-loop2 : tie.InvT-loop2
-Inv-loop2 before left at n k₀ k = Seeking (edge before) (bit left) k
+Inv-loop2 before left at n k₀ k = Seeking (bit left) (ready (inverse (edge before)) (bit left)) k
 
 abbrev μ-loop2 : tie.MeasureT-loop2
 μ-loop2 before left at n k₀ k = 64 - k
@@ -35,7 +36,7 @@ first-requires : tie.Need-first-requires Inv-loop2 μ-loop2 Inv-loop μ-loop
 first-requires c κs = search needs
 
 loop2-holds : tie.Need-loop2-holds Inv-loop2 μ-loop2 Inv-loop μ-loop
-loop2-holds c = seeking-first _ _ _ (c .first .ensures)
+loop2-holds c = seeking-first _ _ (not-ready _ _) _ (c .first .ensures)
 
 mul-p : tie.Need-mul-p Inv-loop2 μ-loop2 Inv-loop μ-loop
 mul-p c = search needs
@@ -62,8 +63,8 @@ loop2-again : tie.Need-loop2-again Inv-loop2 μ-loop2 Inv-loop μ-loop
 unfolding edge
 loop2-again c =
     let turn = c .before .before .before .before .before in
-    seeking-next _ _ _ (turn .before .loop2 .inv) (turn .loop2-test .taken) _ _ (c .before .before .before .and .ensures)
-    (c .before .before .first2 .ensures) (c .before .if1 .left) _ (c .next .ensures)
+    seeking-next _ _ (not-ready _ _) _ (turn .before .loop2 .inv)
+    (preceded-not-ready _ _ _ _ _ (c .before .before .before .and .ensures) (c .before .before .first2 .ensures) (c .before .if1 .left)) _ (c .next .ensures)
 
 -- What the search ends on is the next event.
 next-is : (c : tie.Left-loop2 Inv-loop2 μ-loop2 Inv-loop μ-loop)
@@ -73,7 +74,8 @@ unfolding edge
 next-is c =
     elim (c .loop2-test .came) [
       | inl w ↦ seeking-none _ _ _ (c .before .loop2 .inv) (w .left)
-      | inr w ↦ seeking-found _ _ _ (c .before .loop2 .inv) (w .0 .taken) _ _ (w .2 .ensures) (w .3 .ensures) (w .4 .taken)
+      | inr w ↦ seeking-found _ _ _ (c .before .loop2 .inv) (w .0 .taken)
+          (unpreceded-ready _ _ _ _ _ (w .2 .ensures) (w .3 .ensures) (w .4 .taken) (c .before .loop2 .inv .member (w .0 .taken)))
     ]
 
 returns : tie.Need-returns Inv-loop2 μ-loop2 Inv-loop μ-loop

@@ -12,7 +12,7 @@ use Rattle.verdict.proofs.shown.acyclicity.Statement.{statement}
 use Rattle.verdict.proofs.shown.acyclicity.Tie as tie
 
 -- The events that the order leads back to themselves.
-returning : (c : tie.After-first) (r : Rel) → edge (c .before .before .before .args .order) ≡ r → bit (c .before .diagonal .result) ≡ diagonal (plus nodes r)
+returning : (c : tie.After-first) (r : Rel) → edge (c .before .before .before .args .before) ≡ r → bit (c .before .diagonal .result) ≡ diagonal (plus nodes r)
 returning c r p =
     c .before .diagonal .ensures ∙ ap diagonal (c .before .before .closure .ensures ∙ ap (plus nodes) p)
 
@@ -28,7 +28,7 @@ first-requires c κs = search needs
 broken-ring-requires : tie.Need-broken-ring-requires
 broken-ring-requires c κs = search needs
 
-inside : (c : tie.Start) → Inside (edge (c .args .order))
+inside : (c : tie.Start) → Inside (edge (c .args .before))
 inside c = edge-inside _ (search needs)
 
 returns : tie.Need-returns

@@ -1,0 +1,16 @@
+-- An allowed ARMv8 verdict on a file shows every event of its recording exactly once. Assumes nothing.
+use mathlib.Core.List.{List}
+use Prim.Native.Nat.{ℕ}
+use Rattle.relation.specs.Rel.{nodes}
+use Rattle.models.specs.Graph.{base}
+use Rattle.models.specs.Term.{eval}
+use Rattle.models.specs.Armv8.{scPerLoc}
+use Rattle.models.specs.Rules.{ARMv8}
+use Rattle.recording.specs.Decode.{decode}
+use Rattle.verdict.specs.declared.Verdict.{Verdict}
+use Rattle.execution.specs.OnFile.{OnFile, ShowsAll}
+use Rattle.execution.proofs.AllShown.{shows-all}
+use Rattle.armv8.specs.Judged.{Judged}
+
+pub armv8-shows-all : (f : List ℕ) (v : Verdict) → OnFile 2 ARMv8 Judged f v → ShowsAll f v
+armv8-shows-all f v on = shows-all 2 ARMv8 Judged f v on (eval nodes scPerLoc (base nodes (decode f))) (eval nodes scPerLoc (base nodes (decode f))) (λ j. j)

@@ -1,0 +1,2 @@
+-- The theorem of `armv8`.
+pub mod AllShown

@@ -1,0 +1,34 @@
+-- Of an allowed verdict on a file, what is shown is every event of its recording exactly once. Assumes nothing.
+use mathlib.Core.Path.{_≡_, refl, sym, _∙_}
+use mathlib.Core.List.{List}
+use Prim.Native.Nat.{ℕ, zero, suc}
+use native.Mathlib.Omega.{arith}
+use Rattle.relation.specs.Rel.{Rel, nodes}
+use Rattle.models.specs.Graph.{Base, base}
+use Rattle.models.specs.Rules.{Model}
+use Rattle.recording.specs.Decode.{decode}
+use Rattle.recording.specs.Load.{causeFor}
+use Rattle.recording.proofs.CauseLaws.{cause-goes-on}
+use Rattle.recording.proofs.Loaded.{loaded-within}
+use Rattle.verdict.specs.Answer.{refuses, answers}
+use Rattle.verdict.specs.Shown.{Shown}
+use Rattle.verdict.specs.declared.Verdict.{Verdict}
+use Rattle.verdict.proofs.ShownMeaning.{allowed-shows}
+use Rattle.execution.specs.OnFile.{OnFile, ShowsAll}
+
+-- A refusal is not the answer of an allowed recording.
+refuses-not-allowed : (k : ℕ) → refuses k ≡ answers 0 → ⊥
+refuses-not-allowed k e = (let z : _≡_ {A = ℕ} 0 1 = cc in omega arith)
+
+module _ (k : ℕ) (M : Model) (Judged : Base → Verdict → Type 0) (f : List ℕ) (v : Verdict) (on : OnFile k M Judged f v) where
+  loads : v .answer ≡ answers 0 → causeFor k f ≡ 0
+  loads e = go (causeFor k f) refl
+    where
+      go : (n : ℕ) → causeFor k f ≡ n → causeFor k f ≡ 0
+      go zero p = p
+      go (suc n) p = absurd (refuses-not-allowed (suc n) (sym (on .refused n p .0) ∙ e))
+
+  pub shows-all : (steps closing : Rel) → (Judged (base nodes (decode f)) v → Shown steps closing M (base nodes (decode f)) v) → ShowsAll f v
+  shows-all steps closing shown e =
+      let p = loads e in
+      allowed-shows steps closing M v (decode f) (loaded-within f (cause-goes-on k f p .0)) (shown (on .judged p .shown)) e
