@@ -15,6 +15,7 @@ use Rattle.verdict.specs.declared.Verdict.{Verdict}
 use Rattle.translation.specs.Answer.{translation, cause, answer, translationOf, filled, outputOf}
 use Rattle.translation.specs.declared.Translation.{Translation}
 use Rattle.translation.specs.declared.Translation.the-variants.{Refused, Written}
+use Rattle.translation.proofs.CallLaws.{answer-written, answer-refused}
 use Rattle.translation.proofs.Theorems.{few-bytes}
 use Rattle.soundness.specs.Soundness.{LoadsAs}
 use Rattle.soundness.proofs.Proved.{soundness}
@@ -26,16 +27,6 @@ cause-own k f e q = rw (e, causeFor) (rw (eq-eqb (kind f) k q))
 
 pub loads-source : (f : List ℕ) → causeFor 1 f ≡ 0 → LoadsAs 1 f
 loads-source f p = let w = cause-goes-on 1 f p in record { loads = w .0; kind-is = w .1 }
-
-answer-written : (k n x : ℕ) → answer k n ≡ Written x → (k ≡ 0) × (x ≡ n)
-unfolding answer
-answer-written zero n x p = (refl, cc)
-answer-written (suc k) n x p = absurd (let z : _≡_ {A = ℕ} 0 1 = cc in omega arith)
-
-answer-refused : (k n x : ℕ) → answer k n ≡ Refused x → k ≡ 0 → ⊥
-unfolding answer
-answer-refused zero n x p e = let z : _≡_ {A = ℕ} 0 1 = cc in omega arith
-answer-refused (suc k) n x p e = omega arith
 
 module _ (f : List ℕ) where
   translation-short : causeFor 1 f ≡ 0 → length (translation f) ≤ 1320

@@ -6,14 +6,15 @@ use mathlib.Core.Logic.{_⊎_, inl, inr}
 use Prim.Native.Nat.{ℕ, suc, _+_, _*_, _<_, _≤_}
 use native.Mathlib.Omega.{arith}
 use native.Mathlib.Decide.{decLt}
+use native.Mathlib.Nat.{min-le-left}
 use borrow.Author.Tests.{le-ltb, ltb-false, ne-eqb}
 use lib.Dec.{eqb, ltb}
-use lib.ListN.{length, take}
+use lib.ListN.{length, take, length-take}
 use lib.Seq.{getD-take, length-take-le, take-all}
 use Rattle.models.specs.Rules.{first}
 use Rattle.recording.specs.Layout.{kind, events, locations, links, kindKnown, isSource, mostEvents, mostLinks, fullLength}
 use Rattle.recording.specs.Causes.{headerOver, tooShort, kindUnknown, overLimit, wrongLength, headerCauses, bodyCauses, refusal}
-use Rattle.recording.specs.Input.{longest}
+use Rattle.recording.specs.Input.{longest, ReadOf}
 use Rattle.recording.proofs.CauseLaws.{first-here, first-skip}
 
 -- The number that a file longer than that gets: it passes cause 1 and is stopped by 2, 3 or 4.
@@ -87,3 +88,7 @@ read-of f =
     refused true v = (1, refl)
     refused false true = (2, refl)
     refused false false = (3, refl)
+
+-- What was read is itself an input that would be read so.
+pub read-itself : (start : List ℕ) (n : ℕ) → n ≤ longest + 1 → ReadOf (take n start) start n
+read-itself start n h = sym (take-all (longest + 1) (take n start) (omega (arith, length-take n start, min-le-left n (length start))))

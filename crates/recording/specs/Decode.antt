@@ -1,4 +1,4 @@
--- The recording that a file holds (01, "The recording"). Only this file knows where an event's numbers stand. Assumes nothing.
+-- The recording that a file holds (01, "The recording"), read at the places that Layout names. Assumes nothing.
 use mathlib.Core.Bool.{Bool, true, false, _&&_, _||_}
 use mathlib.Core.List.{List, [], _∷_}
 use Prim.Native.Nat.{ℕ, _+_, _-_, _*_}
@@ -16,7 +16,8 @@ isRecorded f e = leb 1 e && leb e (events f)
 unfoldable pub isInitial : List ℕ → ℕ → Bool
 isInitial f e = leb firstInitial e && ltb e (firstInitial + locations f)
 
--- What an event's record says, or what an initial write has; 0 at a number that is no event's.
+-- What an event's record says, or what an initial write has. A number below 56 that has no record gives 0; one from 56 on gives what an
+-- initial write has, also where there is none: `initial` and `recorded` say which numbers are events.
 unfoldable pub recordOr : List ℕ → (ℕ → ℕ) → (ℕ → ℕ) → ℕ → ℕ
 recordOr f given recorded e =
     elim (leb firstInitial e) [ true ↦ given e | false ↦ elim (isRecorded f e) [ true ↦ recorded e | false ↦ 0 ] ]

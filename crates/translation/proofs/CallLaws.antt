@@ -1,18 +1,21 @@
 -- Laws of the call: what it answers and leaves where it is refused, and that the parts written make up the translation. Assumes nothing.
-use mathlib.Core.Path.{_≡_, refl, sym, ap, ap₂, _∙_}
+use mathlib.Core.Path.{_≡_, refl, sym, ap, ap₂, subst, _∙_}
+use mathlib.Core.Logic.{inl, inr}
 use mathlib.Core.Bool.{Bool, true, false}
 use mathlib.Core.List.{List, [], _++_, append-nil}
 use Prim.Native.Nat.{ℕ, zero, suc, _+_, _-_, _*_, _<_, _≤_}
 use native.Mathlib.Omega.{arith}
 use native.Mathlib.Nat.{zero-add}
-use borrow.Author.Tests.{lt-ltb, le-ltb, eqb-true}
+use borrow.Author.Tests.{lt-ltb, le-ltb, ltb-false, eqb-true}
 use lib.Dec.{eqb, ltb}
 use lib.ListN.{length, take, drop, length-drop, drop-of-length-le}
 use lib.Seq.{take-all, drop-drop}
 use Rattle.recording.specs.Layout.{kind}
 use Rattle.recording.specs.Causes.{refusal}
 use Rattle.recording.specs.Load.{causeFor}
+use Rattle.recording.specs.Input.{longest}
 use Rattle.recording.proofs.CauseLaws.{cause-goes-on}
+use Rattle.recording.proofs.Longest.{read-of}
 use Rattle.translation.specs.Contents.{contents}
 use Rattle.translation.specs.Translate.{newEvents, translated}
 use Rattle.translation.specs.Encode.{linksUpTo, header, eventRecords, linkRecords, encode}
@@ -133,3 +136,47 @@ module _ (f : List ℕ) (out one two part : List ℕ) (n m : ℕ) (p : causeFor 
       let done = written-by f out (8 + 8 * n + 4 * m) fits (measured f n m u v) in
       let made = part-placed two (8 + 8 * n) (linkRecords (chip f) (512 * suc n)) part (omega (arith, sizes .1)) third in
       record { answer = done .answer; output = made ∙ placed-whole ∙ done .output }
+
+-- A call on what is read of an input answers, and leaves the output, as one on the input.
+pub answers-input : (input start : List ℕ) → start ≡ take (longest + 1) input → (out : List ℕ) (r : Translation) (after : List ℕ)
+    → Answers start out r after → Answers input out r after
+unfolding causeFor
+answers-input input start read out r after w =
+    elim (read-of input) [
+      | inl e ↦ subst (λ (f : List ℕ). Answers f out r after) (read ∙ e) w
+      | inr (n, all, part) ↦ let a = refused start n (ap refusal read ∙ part) in
+          let b = refused input n all in
+          record { answer = w .answer ∙ sym (a .answer) ∙ b .answer; output = w .output ∙ sym (a .output) ∙ b .output }
+    ]
+  where
+    refused : (f : List ℕ) (n : ℕ) → refusal f ≡ suc n → Answers f out (Refused (suc n)) out
+    refused f n e = refused-early f (suc n) out (sym (rw (e, causeFor))) (λ z. omega arith)
+
+-- What an answer says of the cause and the length.
+pub answer-written : (k n x : ℕ) → answer k n ≡ Written x → (k ≡ 0) × (x ≡ n)
+unfolding answer
+answer-written zero n x p = (refl, cc)
+answer-written (suc k) n x p = absurd (let z : _≡_ {A = ℕ} 0 1 = cc in omega arith)
+
+pub answer-refused : (k n x : ℕ) → answer k n ≡ Refused x → k ≡ 0 → ⊥
+unfolding answer
+answer-refused zero n x p e = let z : _≡_ {A = ℕ} 0 1 = cc in omega arith
+answer-refused (suc k) n x p e = omega arith
+
+-- What is written fits the output.
+pub written-fits : (f : List ℕ) (r : Translation) (room n : ℕ) → r ≡ translationOf f room → r ≡ Written n → n ≤ room
+unfolding translationOf cause
+written-fits f r room n p q =
+    let (z, size) = answer-written (cause f room) (length (translation f)) n (sym p ∙ q) in
+    fits size (by-cause (causeFor 1 f) refl z)
+  where
+    by-length : (b : Bool) → ltb room (length (translation f)) ≡ b → _≡_ {A = ℕ} (elim b as (λ _. ℕ) [ true ↦ 12 | false ↦ 0 ]) 0 → ltb room (length (translation f)) ≡ false
+    by-length true e z = absurd (omega arith)
+    by-length false e z = e
+
+    by-cause : (k : ℕ) → causeFor 1 f ≡ k → cause f room ≡ 0 → ltb room (length (translation f)) ≡ false
+    by-cause zero e z = by-length (ltb room (length (translation f))) refl (sym (cause-late f room e) ∙ z)
+    by-cause (suc k) e z = absurd (let y : suc k ≡ 0 = sym (cause-early f k room e) ∙ z in omega arith)
+
+    fits : n ≡ length (translation f) → ltb room (length (translation f)) ≡ false → n ≤ room
+    fits size e = omega (arith, size, ltb-false room (length (translation f)) e)

@@ -5,10 +5,14 @@ pub mod link;
 pub mod output;
 pub mod write;
 
+use recording::INPUT;
 use recording::causes;
 ghost use mathlib.Core.Path.{_≡_};
+ghost use mathlib.Core.List.{List};
+ghost use Prim.Native.Nat.{ℕ, _≤_};
 ghost use lib.ListN.{length};
 ghost use Rattle.recording.specs.Load.{causeFor};
+ghost use Rattle.recording.specs.Input.{ReadOf};
 ghost use Rattle.translation.specs.Answer.{translationOf, outputOf};
 
 // What a call answers: the number of the cause that refused it, or the length written.
@@ -50,4 +54,13 @@ pub fn written(file: &[u8], out: &mut [u8]) -> Translation
     write::write_events(out, file, ends, n);
     write::write_links(&mut out[start..], file, ctrl, ends, n);
     Translation::Written(length)
+}
+
+// The same of an input, of which the first n bytes of `start` were read.
+pub fn of_input(start: [u8; INPUT], n: usize, out: &mut [u8]) -> Translation
+    requires { ⌜ n ≤ 1413 ⌝ }
+    ensures answer { λ r. ⌜ ((input : List ℕ) → ReadOf input start n → r ≡ translationOf input (length (now (out .entry)))) ⌝ }
+    ensures output { λ _. ⌜ ((input : List ℕ) → ReadOf input start n → now (out .exit) ≡ outputOf input (now (out .entry))) ⌝ }
+{
+    translate(&start[..n], out)
 }

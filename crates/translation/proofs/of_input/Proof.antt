@@ -1,0 +1,32 @@
+-- `of_input` meets its contract: what is read of an input is answered as the input is. Assumes nothing.
+use mathlib.Core.Path.{_≡_, sym}
+use native.Mathlib.Omega.{arith}
+use lib.ListN.{length}
+use lib.Seq.{length-take-le}
+use Rattle.translation.proofs.CallLaws.{answers-input}
+use borrow.Author.Needs.{needs}
+use Rattle.translation.proofs.of_input.Statement.{statement}
+use Rattle.translation.proofs.of_input.Tie as tie
+
+slice-aggregate-translate : tie.Need-slice-aggregate-translate
+slice-aggregate-translate c =
+    let t = c .before .before in
+    let long : length (t .args .t1) ≡ 1413 = search needs in
+    sym (length-take-le _ _ (omega (arith, long, t .pre)))
+
+returns : tie.Need-returns
+returns c =
+    let called = c .before .before .translate .ensures in (
+      λ input read. answers-input _ _ read _ _ _ (record { answer = called .0; output = called .1 }) .answer,
+      λ input read. answers-input _ _ read _ _ _ (record { answer = called .0; output = called .1 }) .output,
+    )
+
+pub of-input-spec : {M : Type 1} → statement M
+of-input-spec =
+    tie.close
+    (tie.spec
+    (λ c. search needs)
+    slice-aggregate-translate
+    (λ c κs. search needs)
+    (λ c. search needs)
+    returns)
