@@ -2,7 +2,7 @@
  *
  * A file is any bytes: a recording of memory events, of kind 1 (source) or 2 (chip), or anything else. No call keeps a pointer,
  * allocates, reads or writes outside what it is lent, or fails to return, whatever the file holds; each is proved to answer as said
- * here (crates/probe/src/lib.rt). The library has no state and may be called from several threads.
+ * here (crates/probe/src/lib.rt). The library has no state and may be called from several threads. Its archive is for x86-64 only.
  *
  * A pointer and the length behind it lend that many bytes. They must be readable (file) or writable (out), the two must not overlap,
  * and a pointer must not be null, even where its length is 0.
@@ -29,7 +29,7 @@ typedef uint64_t probe_answer;
 #define PROBE_RULE(answer) ((unsigned)(((answer) >> 8) & 255u))
 #define PROBE_LENGTH(answer) ((size_t)((answer) >> 16))
 
-/* The causes of refusal. Of several that apply the smallest is answered. */
+/* The causes of refusal, in the order in which they are tried. Of several that apply the smallest is answered. */
 enum {
     PROBE_SHORT = 1,        /* under 8 bytes */
     PROBE_KIND = 2,         /* kind not 1 or 2 */
@@ -58,11 +58,14 @@ probe_answer probe_load(const uint8_t *file, size_t length);
 
 /* The verdict of IMM on a source file, and of ARMv8 on a chip file. Refusals 1 to 12.
  * Writes the numbers of the events that are shown, a byte each; an initial write of location l has the number 56 + l:
- *   allowed          all events, each behind those that must come before it
- *   broken 1         the read that has no source
- *   broken 2         two writes of one location that co does not order
- *   broken 4         the read and the write of a pair that another write comes between
- *   broken 3 and 5   a ring of events, the smallest first, each ordered before the next and the last before the first */
+ *   allowed          all events, ordered by ar (IMM) or ob (ARMv8), always taking next the smallest number whose predecessors are out;
+ *                    initial writes need not come first
+ *   broken 1         the smallest read that has no source
+ *   broken 2         two writes of one location that co does not order: the pair with the smallest first, then the smallest second
+ *   broken 4         the read and the write of a pair that another write comes between: the pair with the smallest read
+ *   broken 3 and 5   a ring of distinct events, the smallest first, each ordered before the next and the last before the first;
+ *                    it is one of several, and which one is shown is free
+ * docs/FORMAT.md has the rules and the relations, docs/READING.md how to read what is shown. */
 probe_answer probe_imm(const uint8_t *file, size_t length, uint8_t *out, size_t room);
 probe_answer probe_armv8(const uint8_t *file, size_t length, uint8_t *out, size_t room);
 
