@@ -7,7 +7,7 @@ macro_rules! sample {
 }
 
 const FILES: [&[u8]; 12] = [
-    sample!("empty_file"),
+    sample!("empty_recording"),
     sample!("message_passing_relaxed"),
     sample!("release_and_acquire_with_stale_read"),
     sample!("load_buffering"),

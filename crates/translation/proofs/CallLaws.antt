@@ -13,9 +13,9 @@ use lib.Seq.{take-all, drop-drop}
 use Rattle.recording.specs.Layout.{kind}
 use Rattle.recording.specs.Causes.{refusal}
 use Rattle.recording.specs.Load.{causeFor}
-use Rattle.recording.specs.Input.{longest}
+use Rattle.recording.specs.Input.{longest, ReadOf}
 use Rattle.recording.proofs.CauseLaws.{cause-goes-on}
-use Rattle.recording.proofs.Longest.{read-of}
+use Rattle.recording.proofs.Longest.{read-of, read-itself}
 use Rattle.translation.specs.Contents.{contents}
 use Rattle.translation.specs.Translate.{newEvents, translated}
 use Rattle.translation.specs.Encode.{linksUpTo, header, eventRecords, linkRecords, encode}
@@ -180,3 +180,7 @@ written-fits f r room n p q =
 
     fits : n ≡ length (translation f) → ltb room (length (translation f)) ≡ false → n ≤ room
     fits size e = omega (arith, size, ltb-false room (length (translation f)) e)
+
+pub input-fits : (start : List ℕ) (n : ℕ) → n ≤ longest + 1 → (r : Translation) (room m : ℕ)
+    → ((input : List ℕ) → ReadOf input start n → r ≡ translationOf input room) → r ≡ Written m → m ≤ room
+input-fits start n h r room m answers q = written-fits (take n start) r room m (answers (take n start) (read-itself start n h)) q

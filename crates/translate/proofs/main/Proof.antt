@@ -1,21 +1,30 @@
 -- `main` is safe: what is written fits the array.
 use mathlib.Core.Path.{_≡_, sym}
-use mathlib.Core.List.{List}
 use Prim.Native.Nat.{ℕ, _≤_}
 use native.Mathlib.Omega.{arith}
-use denote.Ref.{now}
-use lib.ListN.{length, take}
-use lib.Seq.{length-take-le, take-all}
-use Rattle.translation.proofs.CallLaws.{written-fits}
+use lib.ListN.{length}
+use lib.Seq.{length-take-le}
+use Rattle.translation.proofs.CallLaws.{input-fits}
 use borrow.Author.Needs.{needs}
 use Rattle.translate.proofs.main.Statement.{statement}
 use Rattle.translate.proofs.main.Tie as tie
 
+fits : (c : tie.After-known-told2) → c .before .m .given .0 .0 ≤ 1320
+fits c =
+    let t = c .before .before .before .before in
+    input-fits _ _ (t .before .before .read .ensures) _ _ _ (t .of-input .ensures .0) (c .before .m .given .1)
+
 array-share-prefix-bytes : tie.Need-array-share-prefix-bytes
-array-share-prefix-bytes c = ?
+array-share-prefix-bytes c =
+    let t = c .before .before .before .before in
+    let room : length (t .of-input .last .1 .1 .0) ≡ 1320 = search needs in
+    omega (arith, room, fits c)
 
 slice-aggregate-write : tie.Need-slice-aggregate-write
-slice-aggregate-write c = ?
+slice-aggregate-write c =
+    let t = c .before .before .before .before .before in
+    let room : length (t .of-input .last .1 .1 .0) ≡ 1320 = search needs in
+    sym (length-take-le _ _ (omega (arith, room, fits (c .before))))
 
 pub main-spec : {M : Type 1} → statement M
 main-spec =
