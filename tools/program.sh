@@ -33,40 +33,50 @@ take() {
   { if [ "$1" = - ]; then head -c 1413; else head -c 1413 <"$1"; fi; } >"$2" 2>"$work/said" || fail 2 "$1: cannot be read: $(reason)"
 }
 
-# The crates of this repository that the program stands on, and its own, one a line. crates.txt lists them lowest first.
-crates() {
-  awk -v program="$name" '
+# plan PROVED: how many crates of this repository the program stands on, with its own, and on a second line those that come next: not
+# among PROVED, but all below them are. crates.txt lists the crates lowest first.
+plan() {
+  awk -v program="$name" -v proved=" $1 " '
     { sub(/#.*/, ""); split($0, parts, ":"); gsub(/[ \t]/, "", parts[1]) }
     parts[1] != "" { order[++count] = parts[1]; needs[parts[1]] = parts[2] }
     END {
       wanted[program]
       for (i = count; i > 0; i--) if (order[i] in wanted) {
-        print order[i]
+        total++
+        open = !index(proved, " " order[i] " ")
         split(needs[order[i]], below, " ")
-        for (k in below) wanted[below[k]]
+        for (k in below) {
+          wanted[below[k]]
+          if (below[k] in needs && !index(proved, " " below[k] " ")) open = 0
+        }
+        if (open) next_ones = order[i] (next_ones == "" ? "" : ", ") next_ones
       }
+      print total "\n" next_ones
     }' "$root/crates.txt"
 }
 
-# progress TOTAL < what rt prints: says of each crate when it is proved, and nothing of one that was proved before.
+# progress < what rt prints: says of each crate when it is proved and which come next, and nothing of one that was proved before.
 progress() {
-  local line crate count=0
+  local line crate total next proved= count=0
   while IFS= read -r line; do
-    case $line in "rt: "*" proved ("*) count=$((count + 1)) ;; *) continue ;; esac
+    case $line in "rt: "*" proved ("*) ;; *) continue ;; esac
+    crate=${line#rt: } crate=${crate%% *} proved="$proved $crate" count=$((count + 1))
     case $line in *"(unchanged "*) continue ;; esac
-    crate=${line#rt: }
-    say "proved ${crate%% *}, $count of $1 crates ${line##* proved }"
+    { read -r total; read -r next; } < <(plan "$proved")
+    say "proved $crate, $count of $total crates ${line##* proved }${next:+; next: $next}"
     : >"$work/proved"
   done
 }
 
 # Proves and builds the program where something changed since it was built.
 prove() {
-  local total
+  local total next
   command -v rt >/dev/null || fail 1 "rt, the command of the Rattle kit, is missing, so the program cannot be proved"
-  total=$(crates | wc -l)
-  [ -x "$root/target/bin/$name" ] || say "proving and building the program on its first use, $total crates; this takes some minutes"
-  if ! (cd "$root" && rt check "$name") 2>&1 | tee "$work/log" | progress "$total" || [ ! -x "$root/target/bin/$name" ]; then
+  if [ ! -x "$root/target/bin/$name" ]; then
+    { read -r total; read -r next; } < <(plan "")
+    say "proving and building the program on its first use, $total crates, which takes some minutes; first: $next"
+  fi
+  if ! (cd "$root" && rt check "$name") 2>&1 | tee "$work/log" | progress || [ ! -x "$root/target/bin/$name" ]; then
     tail -n 20 "$work/log" >&2
     fail 1 "the program is not proved and built; above is the end of what 'rt check $name' printed"
   fi
