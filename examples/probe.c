@@ -4,7 +4,7 @@
  *     probe translate FILE OUT       writes the translation of a source recording
  *     probe judge FILE               the lines that the program judge prints
  *
- * Exit status: 0 allowed or done, 1 broken, 2 refused, 3 misuse. */
+ * Exit status: 0 allowed or done, 1 broken, 2 refused, 3 misuse, or a file that cannot be read or written. */
 #include "probe.h"
 
 #include <stdio.h>
@@ -18,6 +18,21 @@ static int refused(probe_answer answer)
 {
     fprintf(stderr, "refused %u\n", PROBE_REFUSAL(answer));
     return 2;
+}
+
+/* Says why the last call on a file failed. */
+static int failed(const char *name)
+{
+    perror(name);
+    return 3;
+}
+
+/* What was printed is written now, so that a write that fails is known. */
+static int printed(int status)
+{
+    if (fflush(stdout) != 0 || ferror(stdout))
+        return failed("standard output");
+    return status;
 }
 
 static int verdict(size_t length)
@@ -38,7 +53,7 @@ static int verdict(size_t length)
     for (size_t i = 0; i < PROBE_LENGTH(answer); i++)
         printf(" %u", out[i]);
     printf("\n");
-    return rule != 0;
+    return printed(rule != 0);
 }
 
 static int translate(size_t length, const char *name)
@@ -47,36 +62,47 @@ static int translate(size_t length, const char *name)
     if (PROBE_REFUSAL(answer) != 0)
         return refused(answer);
     FILE *target = fopen(name, "wb");
-    if (target == NULL) {
-        perror(name);
-        return 3;
-    }
-    fwrite(out, 1, PROBE_LENGTH(answer), target);
-    return fclose(target) == 0 ? 0 : 3;
+    if (target == NULL)
+        return failed(name);
+    size_t written = fwrite(out, 1, PROBE_LENGTH(answer), target);
+    if (fclose(target) != 0 || written != PROBE_LENGTH(answer))
+        return failed(name);
+    return 0;
 }
 
 static int judge(size_t length)
 {
     probe_answer answer = probe_judge(file, length, out, sizeof out);
     fwrite(out, 1, PROBE_LENGTH(answer), stdout);
-    return 0;
+    return printed(0);
+}
+
+/* Reads a file, and answers whether it could be read. */
+static int read_file(const char *name, size_t *length)
+{
+    FILE *source = fopen(name, "rb");
+    if (source == NULL) {
+        failed(name);
+        return 0;
+    }
+    *length = fread(file, 1, sizeof file, source);
+    int good = !ferror(source);
+    if (!good)
+        failed(name);
+    fclose(source);
+    return good;
 }
 
 int main(int count, char **words)
 {
-    FILE *source = count > 2 ? fopen(words[2], "rb") : NULL;
-    if (source == NULL) {
-        fprintf(stderr, "usage: probe verdict FILE | translate FILE OUT | judge FILE\n");
-        return 3;
-    }
-    size_t length = fread(file, 1, sizeof file, source);
-    fclose(source);
-    if (strcmp(words[1], "verdict") == 0 && count == 3)
-        return verdict(length);
-    if (strcmp(words[1], "translate") == 0 && count == 4)
-        return translate(length, words[3]);
-    if (strcmp(words[1], "judge") == 0 && count == 3)
-        return judge(length);
+    const char *word = count > 1 ? words[1] : "";
+    size_t length = 0;
+    if (count == 3 && strcmp(word, "verdict") == 0)
+        return read_file(words[2], &length) ? verdict(length) : 3;
+    if (count == 4 && strcmp(word, "translate") == 0)
+        return read_file(words[2], &length) ? translate(length, words[3]) : 3;
+    if (count == 3 && strcmp(word, "judge") == 0)
+        return read_file(words[2], &length) ? judge(length) : 3;
     fprintf(stderr, "usage: probe verdict FILE | translate FILE OUT | judge FILE\n");
     return 3;
 }
