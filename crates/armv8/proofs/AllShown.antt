@@ -1,4 +1,4 @@
--- An allowed ARMv8 verdict on a file shows every event of its recording exactly once. Assumes nothing.
+-- An allowed ARMv8 verdict on a file shows every event of its recording exactly once.
 use mathlib.Core.List.{List}
 use Prim.Native.Nat.{ℕ}
 use Rattle.relation.specs.Rel.{nodes}

@@ -1,4 +1,4 @@
--- What the ARMv8 verdict says and shows, for the base of an execution graph. Assumes nothing.
+-- What the ARMv8 verdict says and shows, for the base of an execution graph.
 use Rattle.relation.specs.Rel.{nodes}
 use Rattle.models.specs.Graph.{Base}
 use Rattle.models.specs.Term.{eval}

@@ -1,4 +1,4 @@
--- Of an allowed verdict on a file, what is shown is every event of its recording exactly once. Assumes nothing.
+-- Of an allowed verdict on a file, what is shown is every event of its recording exactly once.
 use mathlib.Core.Path.{_≡_, refl, sym, _∙_}
 use mathlib.Core.List.{List}
 use Prim.Native.Nat.{ℕ, zero, suc}

@@ -1,4 +1,4 @@
--- The arrays of a recording hold its base. Assumes nothing.
+-- The arrays of a recording hold its base.
 use mathlib.Core.Path.{_≡_, sym, ap, subst, _∙_}
 use mathlib.Core.List.{List, []}
 use Prim.Native.Nat.{ℕ, suc, _≤_, _<_}

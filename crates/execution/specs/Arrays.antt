@@ -1,4 +1,4 @@
--- The arrays that hold the execution of a recording: each row and grid is the set or relation that its place names. Assumes nothing.
+-- The arrays that hold the execution of a recording: each row and grid is the set or relation that its place names.
 use mathlib.Core.Path.{_≡_}
 use mathlib.Core.List.{List, []}
 use Prim.Native.Nat.{ℕ}

@@ -1,4 +1,4 @@
--- What a verdict over a file's bytes answers, for a model whose files are of kind k (01, "Causes of refusal"). Assumes nothing.
+-- What a verdict over a file's bytes answers, for a model whose files are of kind k (01, "Causes of refusal").
 use mathlib.Core.Path.{_≡_}
 use mathlib.Core.List.{List}
 use Prim.Native.Nat.{ℕ, suc}

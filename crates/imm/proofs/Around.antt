@@ -1,5 +1,5 @@
 -- The ring of IMM's rule 3: where the rule is broken, steps of po or sw and at most one of eco come back to an event,
--- and the closing step is eco only in a ring of two or more events. Assumes nothing.
+-- and the closing step is eco only in a ring of two or more events.
 use mathlib.Core.Path.{_≡_, refl, sym, ap, subst, _∙_, fun-ext}
 use mathlib.Core.Bool.{Bool, true, false, not, _&&_, false≢true}
 use mathlib.Core.List.{List}

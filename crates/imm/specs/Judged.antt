@@ -1,4 +1,4 @@
--- What the IMM verdict says and shows (01, "The IMM verdict" and "What is shown"), for the base of an execution graph. Assumes nothing.
+-- What the IMM verdict says and shows (01, "The IMM verdict" and "What is shown"), for the base of an execution graph.
 use mathlib.Core.Bool.{not, _&&_}
 use lib.Dec.{eqb}
 use Rattle.relation.specs.Rel.{Rel, either, nodes}

@@ -1,5 +1,4 @@
 -- Laws of the verdict on a translation: the translator's answers, that its output is never too short, and that what it writes loads.
--- Assumes nothing.
 use mathlib.Core.Path.{_≡_, refl, sym, ap, subst, _∙_}
 use mathlib.Core.List.{List, _++_}
 use Prim.Native.Nat.{ℕ, zero, suc, _≤_}

@@ -1,4 +1,4 @@
--- Laws of the lines that are printed: demand 3 of the two verdicts, and the lines by what loading answers. Assumes nothing.
+-- Laws of the lines that are printed: demand 3 of the two verdicts, and the lines by what loading answers.
 use mathlib.Core.Path.{_≡_, refl, sym, ap, ap₂, subst, _∙_}
 use mathlib.Core.List.{List, _++_}
 use mathlib.Core.Logic.{inl, inr}

@@ -1,4 +1,4 @@
--- What the judge says of a file as a whole (01, "What is shown"): the verdicts, and the lines that are printed. Assumes nothing.
+-- What the judge says of a file as a whole (01, "What is shown"): the verdicts, and the lines that are printed.
 use mathlib.Core.Path.{_≡_}
 use mathlib.Core.List.{List, [], _++_}
 use Prim.Native.Nat.{ℕ, suc}

@@ -1,5 +1,4 @@
 -- Lines written out: of 01's worked example, of a broken rule, of a refusal, with nothing to show, and of numbers with one to three digits.
--- Assumes nothing.
 use mathlib.Core.Path.{_≡_, refl}
 use mathlib.Core.List.{List, [], _∷_}
 use Prim.Native.Nat.{ℕ}

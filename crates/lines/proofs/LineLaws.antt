@@ -1,4 +1,4 @@
--- Laws of a line: its parts, put one behind the other, make it. Assumes nothing.
+-- Laws of a line: its parts, put one behind the other, make it.
 use mathlib.Core.Path.{_≡_, sym, ap, _∙_}
 use mathlib.Core.List.{List, [], _∷_, _++_, map, append-assoc, append-nil}
 use Prim.Native.Nat.{ℕ}

@@ -1,4 +1,4 @@
--- Laws of a text that grows: byte by byte, by a word, by a number in decimal, and by a row of such. Assumes nothing.
+-- Laws of a text that grows: byte by byte, by a word, by a number in decimal, and by a row of such.
 use mathlib.Core.Path.{_≡_, sym, ap, subst, _∙_}
 use mathlib.Core.List.{List, [], _∷_, _++_, map, append-assoc, append-nil}
 use mathlib.Core.Bool.{Bool, true, false, cond}

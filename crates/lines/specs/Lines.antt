@@ -1,4 +1,4 @@
--- The lines that the judge prints (01, "What is shown"), as bytes in ASCII. Assumes nothing.
+-- The lines that the judge prints (01, "What is shown"), as bytes in ASCII.
 use mathlib.Core.List.{List, [], _∷_, _++_, map}
 use mathlib.Core.Bool.{Bool, true, false, cond}
 use Prim.Native.Nat.{ℕ, _+_, _/_, _%_}

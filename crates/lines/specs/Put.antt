@@ -1,4 +1,4 @@
--- What the parts of a line do to the text that is being made. Assumes nothing.
+-- What the parts of a line do to the text that is being made.
 use mathlib.Core.Path.{_≡_}
 use mathlib.Core.List.{List, _++_}
 use Prim.Native.Nat.{ℕ, _+_, _≤_}

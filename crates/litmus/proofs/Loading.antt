@@ -1,5 +1,5 @@
 -- A test of loading that can be evaluated. Causes 8 and 9 close `next` and `co` over 64 numbers, at a cost that doubles with each;
--- here they are closed over the records, and the sources of a read are sought among its links. A file that passes loads. Assumes nothing.
+-- here they are closed over the records, and the sources of a read are sought among its links. A file that passes loads.
 use mathlib.Core.Path.{_≡_, refl, sym, ap, fun-ext, _∙_}
 use mathlib.Core.Bool.{Bool, true, false, not, _&&_, _||_, false≢true}
 use mathlib.Core.List.{List, [], _∷_, List·Memᴰ}

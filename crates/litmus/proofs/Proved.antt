@@ -1,4 +1,4 @@
--- The litmus table, proved: a row that passes one test holds, and the test is evaluated at every row. Assumes nothing.
+-- The litmus table, proved: a row that passes one test holds, and the test is evaluated at every row.
 use mathlib.Core.Path.{_≡_, refl, ap, _∙_}
 use mathlib.Core.Bool.{Bool, true, false, not, _&&_, false≢true}
 use mathlib.Core.List.{List, [], _∷_, List·Memᴰ, List·Memᴰ·head, List·Memᴰ·tail}

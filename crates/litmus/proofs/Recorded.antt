@@ -1,5 +1,5 @@
 -- The recording that contents describe, computed from them: it equals the one decoded from bytes that say the same, and so does its verdict,
--- over the list of its events alone. Assumes nothing.
+-- over the list of its events alone.
 use mathlib.Core.Path.{_≡_, refl, ap, ap₂, fun-ext, _∙_}
 use mathlib.Core.Bool.{Bool, true, false, _&&_}
 use mathlib.Core.List.{List, [], _∷_, List·Memᴰ, List·Memᴰ·head, List·Memᴰ·tail}

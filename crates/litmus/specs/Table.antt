@@ -1,5 +1,5 @@
 -- The litmus table (01, "Litmus table"): twelve source files with the verdict on each and on its translation, and the statement that they hold.
--- The verdict on the chip side is about the translation as it is defined, computed from the bytes of the source file. Assumes nothing.
+-- The verdict on the chip side is about the translation as it is defined, computed from the bytes of the source file.
 use mathlib.Core.Path.{_≡_}
 use mathlib.Core.List.{List, [], _∷_, List·Memᴰ}
 use Prim.Native.Nat.{ℕ}

@@ -1,5 +1,5 @@
 -- The two meanings of a term agree, and the computed verdict is the verdict.
--- `tests` is the one induction over terms; all else is what it gives. Assumes nothing.
+-- `tests` is the one induction over terms; all else is what it gives.
 use mathlib.Core.Bool.{Bool, true, false, not, _&&_, _||_}
 use mathlib.Core.List.{List, [], _∷_, List·Memᴰ}
 use mathlib.Core.Logic.{_⊎_, inl, inr, _↔_, _≢_}

@@ -1,4 +1,4 @@
--- ARMv8's ordered-before, enlarged: with internal co and fr, and with barriers as events of the order, it still has no ring. Assumes nothing.
+-- ARMv8's ordered-before, enlarged: with internal co and fr, and with barriers as events of the order, it still has no ring.
 use mathlib.Core.Logic.{_⊎_, inl, inr}
 use mathlib.Core.Path.{subst}
 use Rattle.models.specs.Steps.{Plus, one, cons, on, Opt, stay, step}

@@ -1,4 +1,4 @@
--- Paths: one or more steps of a relation, and rings. Assumes nothing.
+-- Paths: one or more steps of a relation, and rings.
 use mathlib.Core.Logic.{_⊎_, inl, inr}
 use mathlib.Core.Path.{_≡_, subst}
 use Rattle.models.specs.Steps.{Plus, one, cons, Opt, stay, step}

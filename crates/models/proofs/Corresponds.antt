@@ -1,4 +1,4 @@
--- When an ARM graph A corresponds to an IMM graph G (003, Def. 4.4), over one type of events. Assumes nothing.
+-- When an ARM graph A corresponds to an IMM graph G (003, Def. 4.4), over one type of events.
 use mathlib.Core.Logic.{_⊎_, _↔_}
 use Rattle.models.specs.Recording.{R, W, F, Racq, Rex, Wrel, Wstrong, Frel, Fld, Fsy}
 use Rattle.models.specs.Graph.{Graph}

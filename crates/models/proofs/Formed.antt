@@ -1,4 +1,4 @@
--- What Def. 2.3 of 003 asks of an execution graph, IMM's and ARM's alike. Values, of which no rule speaks, are left out. Assumes nothing.
+-- What Def. 2.3 of 003 asks of an execution graph, IMM's and ARM's alike. Values, of which no rule speaks, are left out.
 use mathlib.Core.Logic.{_⊎_}
 use mathlib.Core.Path.{_≡_}
 use Rattle.models.specs.Recording.{R, W, F, Racq, Rex, Wrel, Wstrong, Facq, Frel, Fsc, Fld, Fsy}

@@ -1,4 +1,4 @@
--- The graph of a recording that loads is an execution graph as Def. 2.3 of 003 asks. Assumes nothing.
+-- The graph of a recording that loads is an execution graph as Def. 2.3 of 003 asks.
 use mathlib.Core.Logic.{_⊎_, inl, inr}
 use mathlib.Core.Path.{_≡_, sym, _∙_, subst}
 use native.Mathlib.Omega.{arith}

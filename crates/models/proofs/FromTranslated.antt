@@ -1,4 +1,4 @@
--- The translation of a recording that loads: it loads again, and its graph corresponds to the source's as Def. 4.4 of 003 asks. Assumes nothing.
+-- The translation of a recording that loads: it loads again, and its graph corresponds to the source's as Def. 4.4 of 003 asks.
 use mathlib.Core.Bool.{_&&_}
 use mathlib.Core.Logic.{_⊎_, inl, inr, _↔_}
 use mathlib.Core.Path.{_≡_, refl, sym, _∙_, ap, subst}

@@ -1,4 +1,4 @@
--- One location: what rules 1, 2 and SC-per-location give. Assumes nothing.
+-- One location: what rules 1, 2 and SC-per-location give.
 use mathlib.Core.Logic.{inl, inr}
 use mathlib.Core.Path.{subst}
 use Rattle.models.specs.Steps.{Plus, one, cons, stay, step}

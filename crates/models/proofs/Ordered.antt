@@ -1,4 +1,4 @@
--- From an order O on the events of a graph to IMM: an order that fits `Ordered` gives IMM's rules 3 and 5. Assumes nothing.
+-- From an order O on the events of a graph to IMM: an order that fits `Ordered` gives IMM's rules 3 and 5.
 use mathlib.Core.Logic.{_⊎_, inl, inr}
 use Rattle.models.specs.Steps.{Plus, one, cons, on, stay, step}
 use Rattle.models.specs.Recording.{R, W, F, Racq, Wrel, Wstrong, Facq, Frel}
@@ -110,7 +110,7 @@ module _ {E : Type 0} (G : Graph E) (O : E → E → Type 0) where
     acquires (inl (on q)) = reads q
     acquires (inr (_, h, on x)) = fences h x
 
-    -- O speaks of every event.
+    -- The domain of O is every event.
     abbrev All : E → Type 0
     All a = Unit {0}
 

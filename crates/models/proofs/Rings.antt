@@ -1,4 +1,4 @@
--- Rings of ar against an abstract order O: where every ar step is good, ar has no ring. Assumes nothing.
+-- Rings of ar against an abstract order O: where every ar step is good, ar has no ring.
 use mathlib.Core.Logic.{_⊎_, inl, inr}
 use Rattle.models.specs.Steps.{Plus, one, cons, on, stay, step}
 use Rattle.models.specs.Recording.{R, W, F}

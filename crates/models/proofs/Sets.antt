@@ -1,4 +1,4 @@
--- The sets of a recording: what it is to be in each, and how they lie in one another. Assumes nothing.
+-- The sets of a recording: what it is to be in each, and how they lie in one another.
 use mathlib.Core.Bool.{Bool, _&&_, _||_}
 use mathlib.Core.Logic.{_⊎_, inl, inr, _≢_}
 use mathlib.Core.Path.{_≡_, sym, _∙_, subst}

@@ -1,4 +1,4 @@
--- Demand 3 over recordings: a translation that ARMv8 allows comes from a source that IMM allows. Assumes nothing.
+-- Demand 3 over recordings: a translation that ARMv8 allows comes from a source that IMM allows.
 use mathlib.Core.List.{List}
 use mathlib.Core.Path.{_≡_}
 use Prim.Native.Nat.{ℕ}

@@ -1,5 +1,5 @@
 -- Happens-before, coherence and psc within an abstract order O of events: what an order must give so that IMM's rule 3 holds and psc lies in it.
--- Any model whose order fits `Synced` has both from here. Assumes nothing.
+-- Any model whose order fits `Synced` has both from here.
 use mathlib.Core.Logic.{inl, inr}
 use Rattle.models.specs.Steps.{Plus, one, cons, on, stay, step}
 use Rattle.models.specs.Recording.{R, W, Fsc}
@@ -17,7 +17,7 @@ module _ {E : Type 0} (G : Graph E) (O : E → E → Type 0) (L Q N : E → Type
     along : {x y : E} → G .po x y → HB x y
     across : {x a b y : E} → Weak (G .po) x a → L a → Plus O a b → Q b → Weak (G .po) b y → HB x y
 
-  -- L are the release points, Q the acquire points, N what O speaks of.
+  -- L are the release points, Q the acquire points, N the domain of O.
   pub record Synced : Type 0 where
     pub acyclic : {a : E} → Plus O a a → ⊥
     pub rfe : (a b : E) → ⟦ rfₑ ⟧ G a b → O a b

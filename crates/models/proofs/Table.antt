@@ -1,5 +1,5 @@
 -- Verdicts computed by tables: the tests of a term over a list of events as rows of Bools, each operator by whole rows.
--- `table-verdict` equates the verdict with the one computed so, which the checker evaluates quickly at a closed recording. Assumes nothing.
+-- `table-verdict` equates the verdict with the one computed so, which the checker evaluates quickly at a closed recording.
 use mathlib.Core.Bool.{Bool, true, false, not, _&&_, _||_, or-false}
 use mathlib.Core.List.{List, [], _∷_, map, zipWith, List·Memᴰ, List·Memᴰ·head, List·Memᴰ·tail}
 use mathlib.Core.Path.{_≡_, refl, sym, ap, ap₂, _∙_, subst}

@@ -1,4 +1,4 @@
--- Bool-valued relations as tests of Type-valued ones: what each operator of the relation layer means. Assumes nothing.
+-- Bool-valued relations as tests of Type-valued ones: what each operator of the relation layer means.
 use mathlib.Core.Bool.{Bool, true, false, not, _&&_, _||_}
 use mathlib.Core.List.{List, [], _∷_, List·Memᴰ, List·Memᴰ·head, List·Memᴰ·tail}
 use mathlib.Core.Logic.{_⊎_, inl, inr}

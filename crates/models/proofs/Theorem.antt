@@ -1,4 +1,4 @@
--- Theorem 4.5 of 003: where ARMv8 allows a graph that corresponds to an IMM graph, IMM allows that graph. Assumes nothing.
+-- Theorem 4.5 of 003: where ARMv8 allows a graph that corresponds to an IMM graph, IMM allows that graph.
 use mathlib.Core.Logic.{_⊎_, inl, inr}
 use Rattle.models.specs.Steps.{Plus, one, cons, on, stay, step}
 use Rattle.models.specs.Recording.{R, W, Rex, Fld, Fsy}

@@ -1,4 +1,4 @@
--- ARMv8 (003, section 4.2 and appendix C), in the paper's order and names. R^Q is Racq, W^L is Wrel, and W^ex, the writes of rmw pairs, is codom(rmw). Assumes nothing.
+-- ARMv8 (003, section 4.2 and appendix C), in the paper's order and names. R^Q is Racq, W^L is Wrel, and W^ex, the writes of rmw pairs, is codom(rmw).
 use Rattle.models.specs.Recording.{R, W, Racq, Wrel, Fld, Fsy}
 use Rattle.models.specs.Term.{Term, po, rf, co, rmw, «data», addr, ctrl, ⟨_⟩, ⟨codom_⟩, _⨾_, _∪_, opt, po-loc, fr, rfₑ, rfᵢ, coₑ, coᵢ, frₑ}
 
@@ -22,6 +22,6 @@ bob = po ⨾ ⟨ Fsy ⟩ ⨾ po ∪ ⟨ R ⟩ ⨾ po ⨾ ⟨ Fld ⟩ ⨾ po ∪ 
 abbrev pub ob : Term
 ob = obs ∪ dob ∪ aob ∪ bob
 
--- what rule 3, SC-per-location, speaks of
+-- the relation of rule 3, SC-per-location
 abbrev pub scPerLoc : Term
 scPerLoc = po-loc ∪ rf ∪ fr ∪ co

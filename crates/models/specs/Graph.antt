@@ -1,6 +1,6 @@
 -- Execution graphs (003, Def. 2.3), and the execution graph of a recording (01, "The recording").
 -- One record serves IMM's and ARM's graphs, and both ways to give sets and relations: Type-valued, for theorems,
--- and Bool-valued over a list of events, for computing. Assumes nothing.
+-- and Bool-valued over a list of events, for computing.
 use mathlib.Core.Bool.{_&&_}
 use mathlib.Core.List.{List, List·Memᴰ}
 use mathlib.Core.Logic.{_⊎_}

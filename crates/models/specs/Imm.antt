@@ -1,5 +1,4 @@
 -- IMM (003, sections 3.1 to 3.3), line by line in the paper's order and names. x_e and x_i are written xₑ and xᵢ, x? is `opt x`.
--- Assumes nothing.
 use Rattle.models.specs.Recording.{R, W, F, Racq, Rex, Wrel, Wstrong, Facq, Frel, Fsc}
 use Rattle.models.specs.Term.{Term, po, rf, co, rmw, «data», addr, ctrl, casdep, ⟨_⟩, _⨾_, _∪_, _∩_, opt, _⁺, _*, po-loc, fr, rfₑ, rfᵢ, coₑ}
 

@@ -1,4 +1,4 @@
--- What loading ensures of a recording, source or chip (01, "The recording" and "Causes of refusal"). Assumes nothing.
+-- What loading ensures of a recording, source or chip (01, "The recording" and "Causes of refusal").
 -- Each field names the words or the cause that it comes from. Legal modes and flags, and values, of which no rule speaks, are the decoding's.
 use mathlib.Core.Logic.{_⊎_}
 use mathlib.Core.Path.{_≡_}

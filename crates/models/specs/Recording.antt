@@ -1,5 +1,5 @@
 -- A recording (01, "The recording") as it is after decoding, over any type E of events.
--- Bytes, chains as indices and numbers of events are the decoding's; nothing of them is here. Assumes nothing.
+-- Bytes, chains as indices and numbers of events are the decoding's; nothing of them is here.
 use mathlib.Core.Bool.{Bool, _&&_, _||_}
 use Prim.Native.Nat.{ℕ}
 use lib.Dec.{eqb}

@@ -1,5 +1,5 @@
 -- The rules of the two models (003, Def. 3.11 and Def. C.1; 01, "The IMM verdict" and "The ARMv8 verdict"):
--- as statements about a graph, and as tests over a list of events. Assumes nothing.
+-- as statements about a graph, and as tests over a list of events.
 use mathlib.Core.Bool.{Bool, true, false, not, _&&_, _||_}
 use mathlib.Core.List.{List, [], _∷_}
 use mathlib.Core.Logic.{_⊎_, _≢_}

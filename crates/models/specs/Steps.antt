@@ -1,4 +1,4 @@
--- Type-valued relations on events: one or more steps, an optional step, the identity on a set. Assumes nothing.
+-- Type-valued relations on events: one or more steps, an optional step, the identity on a set.
 
 -- r⁺: one or more steps of r.
 pub data Plus {E : Type 0} (r : E → E → Type 0) : E → E → Type 0 where

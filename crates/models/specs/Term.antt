@@ -1,6 +1,6 @@
 -- Relational terms: the notation of 003 (the openings of sections 2 and 3), with two meanings.
 -- `⟦ t ⟧ G a b` is the statement that t relates a and b in the graph G; `eval es t B` is the test, computed over the list es.
--- `proofs/Agree.antt` proves that the two agree for the graph of a recording. Assumes nothing.
+-- `proofs/Agree.antt` proves that the two agree for the graph of a recording.
 use mathlib.Core.List.{List}
 use mathlib.Core.Logic.{_⊎_}
 use Prim.Native.Nat.{ℕ}

@@ -1,5 +1,5 @@
 -- What the translation does, from a source recording S to a chip recording C of the same events and new fences (01, "The translation").
--- Numbers of events, values and the order of links are the encoding's and are not here. Assumes nothing.
+-- Numbers of events, values and the order of links are the encoding's and are not here.
 use mathlib.Core.Logic.{_⊎_, _↔_}
 use mathlib.Core.Path.{_≡_}
 use Prim.Native.Nat.{ℕ, _≤_}

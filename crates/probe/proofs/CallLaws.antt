@@ -1,4 +1,4 @@
--- Laws of the calls' answers: bytes that are stored in an output or not, the answer of a verdict, and the judge's lines. Assumes nothing.
+-- Laws of the calls' answers: bytes that are stored in an output or not, the answer of a verdict, and the judge's lines.
 use mathlib.Core.Path.{_≡_, refl, sym, ap, subst, _∙_}
 use mathlib.Core.List.{List, _++_}
 use Prim.Native.Nat.{ℕ, zero, suc, _+_, _<_, _≤_}

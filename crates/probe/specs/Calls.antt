@@ -1,4 +1,4 @@
--- What the calls answer, as numbers, and what they leave of an output. Assumes nothing.
+-- What the calls answer, as numbers, and what they leave of an output.
 use mathlib.Core.Path.{_≡_}
 use mathlib.Core.List.{List, _++_}
 use Prim.Native.Nat.{ℕ, _+_, _*_, _≤_, _<_}

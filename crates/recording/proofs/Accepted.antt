@@ -1,4 +1,4 @@
--- A file that loads passes each of the ten tests, and one that passes each loads. Assumes nothing.
+-- A file that loads passes each of the ten tests, and one that passes each loads.
 use mathlib.Core.Path.{_≡_, refl, sym, ap, _∙_}
 use mathlib.Core.Bool.{Bool, true, false, not, _&&_, _||_, false≢true}
 use mathlib.Core.List.{List, [], _∷_}

@@ -1,4 +1,4 @@
--- Laws of the causes of refusal. Assumes nothing.
+-- Laws of the causes of refusal.
 use mathlib.Core.Path.{_≡_, refl, sym, ap, ap₂, subst, _∙_}
 use mathlib.Core.Bool.{Bool, true, false, not, _&&_, _||_, false≢true}
 use mathlib.Core.List.{List, [], _∷_}

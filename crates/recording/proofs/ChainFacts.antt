@@ -1,4 +1,4 @@
--- Facts of chains on which nothing is met twice: each stays within the limit, ends, and shares nothing with another. Assumes nothing.
+-- Facts of chains on which nothing is met twice: each stays within the limit, ends, and shares nothing with another.
 use mathlib.Core.Path.{_≡_, refl, sym, ap, subst, _∙_}
 use mathlib.Core.Bool.{Bool, true, false, not, _&&_, _||_, false≢true}
 use mathlib.Core.List.{List, [], _∷_, _++_}

@@ -1,4 +1,4 @@
--- Laws of chains: the walk with marks answers what the definitions say. Assumes nothing.
+-- Laws of chains: the walk with marks answers what the definitions say.
 use mathlib.Core.Path.{_≡_, refl, sym, ap, ap₂, subst, _∙_}
 use mathlib.Core.Bool.{Bool, true, false, not, _&&_, _||_, false≢true}
 use mathlib.Core.List.{List, [], _∷_, _++_}

@@ -1,4 +1,4 @@
--- Where co leads back to its start, links of co alone do: no step of co leads to an initial write. Assumes nothing.
+-- Where co leads back to its start, links of co alone do: no step of co leads to an initial write.
 use mathlib.Core.Path.{_≡_, sym, ap, _∙_}
 use mathlib.Core.Bool.{true, _&&_, false≢true}
 use mathlib.Core.List.{List}

@@ -1,4 +1,4 @@
--- Laws of reading a file: each test and field of the code is that of its definition. Assumes nothing.
+-- Laws of reading a file: each test and field of the code is that of its definition.
 use mathlib.Core.Path.{_≡_, refl, sym, ap, _∙_}
 use mathlib.Core.Bool.{Bool, true, false, _&&_, _||_, false≢true}
 use mathlib.Core.List.{List}

@@ -1,4 +1,4 @@
--- Laws of the relations of a file as rows and grids. Assumes nothing.
+-- Laws of the relations of a file as rows and grids.
 use mathlib.Core.Path.{_≡_, refl, sym, ap, ap₂, subst, _∙_, fun-ext}
 use mathlib.Core.Bool.{Bool, true, false, _&&_, _||_}
 use mathlib.Core.List.{List, [], _∷_}

@@ -1,4 +1,4 @@
--- Laws of what records may say: by class and by type. Assumes nothing.
+-- Laws of what records may say: by class and by type.
 use mathlib.Core.Path.{_≡_, refl, sym, ap, ap₂, _∙_}
 use mathlib.Core.Bool.{Bool, true, false, _&&_, _||_}
 use mathlib.Core.List.{List}

@@ -1,4 +1,4 @@
--- Laws of walks along the links into an event. Assumes nothing.
+-- Laws of walks along the links into an event.
 use mathlib.Core.Path.{_≡_, refl, sym, ap, ap₂, subst, _∙_, fun-ext}
 use mathlib.Core.Bool.{Bool, true, false, not, _&&_, _||_, false≢true}
 use mathlib.Core.List.{List, [], _∷_}

@@ -1,5 +1,4 @@
 -- What loading ensures (`Loads` of models): a file to which no cause of refusal applies holds a recording with these properties.
--- Assumes nothing.
 use mathlib.Core.Path.{_≡_, refl, sym, ap, subst, _∙_}
 use mathlib.Core.Bool.{Bool, true, false, not, _&&_, _||_, false≢true}
 use mathlib.Core.List.{List, [], _∷_}

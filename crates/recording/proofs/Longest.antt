@@ -1,4 +1,4 @@
--- A file longer than the longest that loads gets what its first bytes fix, so a reader of a stream may stop early. Assumes nothing.
+-- A file longer than the longest that loads gets what its first bytes fix, so a reader of a stream may stop early.
 use mathlib.Core.Path.{_≡_, refl, sym, ap, ap₂, _∙_}
 use mathlib.Core.Bool.{Bool, true, false, not, _||_, false≢true}
 use mathlib.Core.List.{List, [], _∷_}

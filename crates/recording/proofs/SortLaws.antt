@@ -1,4 +1,4 @@
--- Laws of the sets of events of a file: ranges of numbers, and events sorted by a byte of their records. Assumes nothing.
+-- Laws of the sets of events of a file: ranges of numbers, and events sorted by a byte of their records.
 use mathlib.Core.Path.{_≡_, refl, sym, ap, ap₂, subst, _∙_, fun-ext}
 use mathlib.Core.Bool.{Bool, true, false, not, _&&_, _||_}
 use mathlib.Core.List.{List, []}

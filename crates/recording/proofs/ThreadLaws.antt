@@ -1,4 +1,4 @@
--- Laws of the line of the threads' events, and of program order made along it from its end. Assumes nothing.
+-- Laws of the line of the threads' events, and of program order made along it from its end.
 use mathlib.Core.Path.{_≡_, refl, sym, ap, ap₂, subst, _∙_, fun-ext}
 use mathlib.Core.Bool.{Bool, true, false, _&&_, _||_, false≢true}
 use mathlib.Core.List.{List, [], _∷_, _++_, append-assoc, append-nil}

@@ -1,4 +1,4 @@
--- Tests that pass, said by an equation and as a type. Assumes nothing.
+-- Tests that pass, said by an equation and as a type.
 use mathlib.Core.Path.{_≡_, refl, sym, subst, _∙_}
 use mathlib.Core.Bool.{Bool, true, false, not, false≢true}
 use mathlib.Core.Logic.{_⊎_, inl, inr}

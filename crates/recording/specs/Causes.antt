@@ -1,5 +1,4 @@
 -- The causes of refusal 1 to 10 (01, "Causes of refusal, in order"): each is one definition, and `refusal` is the first that applies.
--- Assumes nothing.
 use mathlib.Core.Path.{_≡_}
 use mathlib.Core.Bool.{Bool, true, false, _&&_, _||_, not}
 use mathlib.Core.List.{List, [], _∷_, _++_}

@@ -1,4 +1,4 @@
--- Chains: events on thread chains and links on event chains (01, "The recording"; causes 6 and 7). Assumes nothing.
+-- Chains: events on thread chains and links on event chains (01, "The recording"; causes 6 and 7).
 use mathlib.Core.Path.{_≡_}
 use mathlib.Core.Bool.{Bool, true, false, _&&_, _||_, not}
 use mathlib.Core.List.{List, [], _∷_, _++_}

@@ -1,4 +1,4 @@
--- The recording that a file holds (01, "The recording"), read at the places that Layout names. Assumes nothing.
+-- The recording that a file holds (01, "The recording"), read at the places that Layout names.
 use mathlib.Core.Bool.{Bool, true, false, _&&_, _||_}
 use mathlib.Core.List.{List, [], _∷_}
 use Prim.Native.Nat.{ℕ, _+_, _-_, _*_}

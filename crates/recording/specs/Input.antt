@@ -1,5 +1,4 @@
 -- The input of a program, which reads no more of it than decides what it gets (01, "The program judge reads one recording from standard input").
--- Assumes nothing.
 use mathlib.Core.Path.{_≡_}
 use mathlib.Core.List.{List}
 use Prim.Native.Nat.{ℕ, _+_}

@@ -1,4 +1,4 @@
--- The layout of a file (01, "The recording"): where each number stands, and what varies by kind. Assumes nothing.
+-- The layout of a file (01, "The recording"): where each number stands, and what varies by kind.
 -- A file is a list of bytes; a byte beyond its end reads as 0.
 use mathlib.Core.Path.{_≡_}
 use mathlib.Core.Bool.{Bool, true, false, _||_}

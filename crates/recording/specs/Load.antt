@@ -1,4 +1,4 @@
--- What loading answers (01, "Causes of refusal"): the number of the first cause, or the header. Assumes nothing.
+-- What loading answers (01, "Causes of refusal"): the number of the first cause, or the header.
 use mathlib.Core.List.{List}
 use mathlib.Core.Bool.{true, false}
 use Prim.Native.Nat.{ℕ, zero, suc}

@@ -1,4 +1,4 @@
--- What arrays of rows hold of a file: its events by a byte of their records, its accesses by location, its links by type. Assumes nothing.
+-- What arrays of rows hold of a file: its events by a byte of their records, its accesses by location, its links by type.
 use mathlib.Core.Path.{_≡_}
 use mathlib.Core.Bool.{true, _&&_}
 use mathlib.Core.List.{List, []}

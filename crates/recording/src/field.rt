@@ -1,5 +1,5 @@
 // Reading a file whose limits and length are right: bytes of records, and what they say of an event.
-// Every event number may be asked for: at one that is no event's the answer is 0 or false.
+// Every number may be asked for. One below 56 that has no record gives 0 or false; one from 56 on gives what an initial write has (specs/Decode.antt).
 
 ghost use mathlib.Core.Path.{_≡_};
 ghost use Prim.Native.Nat.{_≤_, _<_};

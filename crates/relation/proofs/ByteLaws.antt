@@ -1,4 +1,4 @@
--- Laws of the bits of bytes and of rows. Assumes nothing.
+-- Laws of the bits of bytes and of rows.
 use mathlib.Core.Path.{_≡_, refl, sym, ap, ap₂, subst, _∙_, fun-ext}
 use mathlib.Core.List.{List}
 use mathlib.Core.Bool.{Bool, true, false, not, _&&_, _||_, Bool·beq}

@@ -1,4 +1,4 @@
--- Laws of counting: how many numbers below n are in a set. Assumes nothing.
+-- Laws of counting: how many numbers below n are in a set.
 use mathlib.Core.Path.{_≡_, refl, sym, ap, subst, _∙_}
 use mathlib.Core.Bool.{Bool, true, false}
 use mathlib.Core.Logic.{_⊎_, inl, inr}

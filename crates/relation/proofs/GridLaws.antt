@@ -1,4 +1,4 @@
--- Laws of grids: grids made row by row, and what each operator is outside a grid. Assumes nothing.
+-- Laws of grids: grids made row by row, and what each operator is outside a grid.
 use mathlib.Core.Path.{_≡_, refl, sym, ap, ap₂, subst, _∙_, fun-ext}
 use mathlib.Core.List.{List, [], _∷_}
 use mathlib.Core.Bool.{Bool, true, false, not, _&&_, _||_}
@@ -375,7 +375,7 @@ pub product-out : (s t : Set) (m : ℕ) → s m ≡ false → product s t m ≡ 
 unfolding none
 product-out s t m p = sym (product-no s t m p)
 
--- What two grids lead back to, where the second is the other way round: the rows of an event share a member.
+-- The diagonal of a ; b⁻¹: the events whose rows of a and b share a member.
 pub returning-at : (a b : List (List ℕ)) (i k : ℕ) (m : Set) → m ≡ intersection (bit (getD a i [])) (bit (getD b i [])) → k ≡ least 64 m
     → ltb k 64 ≡ diagonal (chain nodes (edge a) (inverse (edge b))) i
 unfolding diagonal chain image inverse edge intersection

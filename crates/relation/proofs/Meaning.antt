@@ -1,5 +1,5 @@
 -- What the computed operators mean: `some` is "there is an event", `chain` is "there is an event between",
--- `plus` is one or more steps. Assumes nothing.
+-- `plus` is one or more steps.
 use mathlib.Core.Path.{_≡_, refl, sym, subst, _∙_}
 use mathlib.Core.List.{List, [], _∷_}
 use mathlib.Core.Bool.{Bool, true, false, _&&_, _||_, false≢true}

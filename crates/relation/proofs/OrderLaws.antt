@@ -1,4 +1,4 @@
--- Laws of the shown order: made event by event it is the definition, and without a ring every event comes out. Assumes nothing.
+-- Laws of the shown order: made event by event it is the definition, and without a ring every event comes out.
 use mathlib.Core.Path.{_≡_, refl, sym, ap, subst, _∙_}
 use mathlib.Core.List.{List, [], _∷_, _++_, append-assoc, append-nil}
 use mathlib.Core.Bool.{Bool, true, false, not, _&&_, false≢true}

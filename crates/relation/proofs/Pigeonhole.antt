@@ -1,4 +1,4 @@
--- Of n + 1 numbers below n two are equal. Assumes nothing.
+-- Of n + 1 numbers below n two are equal.
 use mathlib.Core.Path.{_≡_, refl, sym, ap, _∙_}
 use mathlib.Core.Logic.{_⊎_, inl, inr}
 use Prim.Native.Nat.{ℕ, zero, suc, _+_, _-_, _<_, _≤_}

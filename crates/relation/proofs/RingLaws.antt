@@ -1,4 +1,4 @@
--- Laws of the ring routine: its parts together find a ring exactly where there is one. Assumes nothing.
+-- Laws of the ring routine: its parts together find a ring exactly where there is one.
 use mathlib.Core.Path.{_≡_, refl, sym, ap, ap₂, subst, _∙_, fun-ext}
 use mathlib.Core.List.{List, [], _∷_}
 use mathlib.Core.Bool.{Bool, true, false, _&&_, _||_, false≢true}

@@ -1,4 +1,4 @@
--- What a ring means: there is one exactly where an event comes back to itself. Assumes nothing.
+-- What a ring means: there is one exactly where an event comes back to itself.
 use mathlib.Core.Path.{_≡_, refl, sym, ap, subst, _∙_}
 use mathlib.Core.List.{List}
 use mathlib.Core.Bool.{Bool, true, false, _||_, false≢true}

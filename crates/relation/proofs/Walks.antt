@@ -1,5 +1,4 @@
 -- Walks of a given number of steps, and `power`, which computes them. Among 64 events every walk can be made shorter than 64 steps.
--- Assumes nothing.
 use mathlib.Core.Path.{_≡_, refl, sym, ap, subst, _∙_}
 use mathlib.Core.List.{List, [], _∷_}
 use mathlib.Core.Bool.{Bool, true, false, _&&_, false≢true}

@@ -1,4 +1,4 @@
--- Laws of a row as one number: its bits are the row's, and its lowest set bit is the smallest member. Assumes nothing.
+-- Laws of a row as one number: its bits are the row's, and its lowest set bit is the smallest member.
 use mathlib.Core.Path.{_≡_, refl, sym, ap, ap₂, subst, _∙_, fun-ext}
 use mathlib.Core.List.{List, [], _∷_}
 use mathlib.Core.Bool.{Bool, true, false, _||_}

@@ -1,5 +1,5 @@
 -- A set as a row of eight bytes, and a relation as a grid of 64 rows (01, "Shape of the build").
--- Event j, below 64, is bit j % 8 of byte j / 8; what lies outside a row or a grid is in no set. Assumes nothing.
+-- Event j, below 64, is bit j % 8 of byte j / 8; what lies outside a row or a grid is in no set.
 use mathlib.Core.List.{List, []}
 use mathlib.Core.Bool.{Bool, _&&_}
 use Prim.Native.Nat.{ℕ, _/_, _%_, _^_}

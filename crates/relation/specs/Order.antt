@@ -1,5 +1,4 @@
 -- The order in which events are shown: always next the smallest whose predecessors are out (01, "What is shown").
--- Assumes nothing.
 use mathlib.Core.List.{List, [], _∷_}
 use mathlib.Core.Bool.{Bool, true, false}
 use mathlib.Core.Path.{_≡_}

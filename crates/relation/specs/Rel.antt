@@ -1,6 +1,6 @@
 -- Relations and sets of events, as Bool-valued functions of event numbers, and the operators on them.
 -- An operator that looks for an event between two others takes the list of events to look in.
--- `proofs/Meaning.antt` has the theorems that say what each means: "there is an event between", "one or more steps". Assumes nothing.
+-- `proofs/Meaning.antt` has the theorems that say what each means: "there is an event between", "one or more steps".
 use mathlib.Core.List.{List, [], _∷_}
 use mathlib.Core.Bool.{Bool, true, false, not, _&&_, _||_}
 use mathlib.Core.Path.{_≡_}
@@ -21,7 +21,7 @@ empty j = false
 unfoldable pub single : ℕ → Set
 single k j = eqb k j
 
--- s where b is true, and else no event.
+-- s if b is true, otherwise empty.
 unfoldable pub given : Bool → Set → Set
 given b s j = b && s j
 

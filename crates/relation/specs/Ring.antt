@@ -1,5 +1,5 @@
 -- Rings: what a ring of a relation is, and what the ring routine answers (01, "What is shown").
--- A ring's closing step may be of another relation than its other steps. Assumes nothing.
+-- A ring's closing step may be of another relation than its other steps.
 use mathlib.Core.Path.{_≡_}
 use mathlib.Core.List.{List}
 use mathlib.Core.Bool.{Bool, true, false}
@@ -72,11 +72,11 @@ pub record SmallestAt (at : List ℕ) (n m : ℕ) : Type 0 where
   pub inside : m < n
   pub least : (k : ℕ) → k < n → getD at m zero ≤ getD at k zero
 
--- The place that comes to k where the place m comes to the front of n places.
+-- The index that comes to k when n places are rotated left by m.
 unfoldable pub turnedTo : ℕ → ℕ → ℕ → ℕ
 turnedTo k m n = elim (ltb (k + m) n) [ true ↦ k + m | false ↦ k + m - n ]
 
--- The first n of `at` come round to `out`, a smallest first.
+-- `out` is the first n of `at`, rotated left so that a smallest stands first.
 pub record Turned (at : List ℕ) (n len : ℕ) (out : List ℕ) : Type 0 where
   pub same : len ≡ n
   pub long : length out ≡ 64

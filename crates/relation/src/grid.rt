@@ -243,7 +243,7 @@ pub fn diagonal(g: [[u8; 8]; 64]) -> [u8; 8]
     r
 }
 
-// The events that a and then the inverse of b lead back to: their rows of a and b share a member.
+// The diagonal of a ; b⁻¹: the events whose rows of a and b share a member.
 pub fn returning(a: [[u8; 8]; 64], b: [[u8; 8]; 64]) -> [u8; 8]
     ensures { λ r. ⌜ bit r ≡ diagonal (chain nodes (edge a) (inverse (edge b))) ⌝ }
 {

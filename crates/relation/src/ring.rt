@@ -103,7 +103,7 @@ pub fn smallest_at(at: [u8; 64], len: usize) -> usize
     m
 }
 
-// The place that comes to k where m comes to the front of len.
+// The index that comes to k when len places are rotated left by m.
 pub fn turned_to(k: usize, m: usize, len: usize) -> usize
     requires { ⌜ (k < len) × (m < len) × (len ≤ 64) ⌝ }
     ensures { λ r. ⌜ r ≡ turnedTo k m len ⌝ }

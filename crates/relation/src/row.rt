@@ -86,7 +86,7 @@ pub fn without(row: [u8; 8], j: usize) -> [u8; 8]
     bytes(w ^ (w & (1u64 << j)))
 }
 
-// The set where b holds, and else no event.
+// The set if b holds, otherwise empty.
 pub fn given(b: bool, row: [u8; 8]) -> [u8; 8]
     ensures { λ r. ⌜ bit r ≡ given b (bit row) ⌝ }
 {

@@ -1,4 +1,4 @@
--- Demand 3, proved. Assumes nothing.
+-- Demand 3, proved.
 use Rattle.translation.proofs.Theorems.{translation-loads, translation-kind, translation-sound}
 use Rattle.soundness.specs.Soundness.{immVerdict, armv8Verdict, Soundness}
 

@@ -1,6 +1,6 @@
 -- Demand 3: "No source recording that loads, whatever its events and links, is broken under IMM while its translation is allowed under ARMv8.
 -- Whenever a source recording loads, each of its translations loads too. Loading, translation and verdicts are those that the papers define."
--- The statement, over bytes and with the definitions that the calls' contracts cite. `proofs/Proved.antt` proves it. Assumes nothing.
+-- The statement, over bytes and with the definitions that the calls' contracts cite. `proofs/Proved.antt` proves it.
 use mathlib.Core.Path.{_≡_}
 use mathlib.Core.List.{List}
 use Prim.Native.Nat.{ℕ}

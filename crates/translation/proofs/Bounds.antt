@@ -1,4 +1,4 @@
--- The translation of a source file that loads has at most 48 events and at most 232 links. Assumes nothing.
+-- The translation of a source file that loads has at most 48 events and at most 232 links.
 use mathlib.Core.Path.{_≡_, refl, sym, ap, subst, _∙_}
 use mathlib.Core.Bool.{true, _&&_}
 use mathlib.Core.List.{List, []}

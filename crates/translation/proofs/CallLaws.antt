@@ -1,4 +1,4 @@
--- Laws of the call: what it answers and leaves where it is refused, and that the parts written make up the translation. Assumes nothing.
+-- Laws of the call: what it answers and leaves where it is refused, and that the parts written make up the translation.
 use mathlib.Core.Path.{_≡_, refl, sym, ap, ap₂, subst, _∙_}
 use mathlib.Core.Logic.{inl, inr}
 use mathlib.Core.Bool.{Bool, true, false}

@@ -1,4 +1,4 @@
--- Laws of an encoded file: its length, its header, and the bytes of each record. Assumes nothing.
+-- Laws of an encoded file: its length, its header, and the bytes of each record.
 use mathlib.Core.Path.{_≡_, refl, ap, _∙_}
 use mathlib.Core.Bool.{true}
 use mathlib.Core.List.{_++_}

@@ -1,5 +1,5 @@
 -- The links of an encoded file: each event's chain is a run of numbers, every link stands on one chain, and the links that
--- the file holds are those that were written. Assumes nothing.
+-- the file holds are those that were written.
 use mathlib.Core.Path.{_≡_, refl, sym, ap, subst, _∙_}
 use mathlib.Core.Bool.{Bool, true, false, _&&_}
 use mathlib.Core.List.{List, _++_}

@@ -1,4 +1,4 @@
--- Laws of the functions over events: each answers what its definition says. Assumes nothing.
+-- Laws of the functions over events: each answers what its definition says.
 use mathlib.Core.Path.{_≡_, refl, sym, ap, ap₂, _∙_}
 use mathlib.Core.Bool.{Bool, true, false, _&&_}
 use mathlib.Core.List.{List}

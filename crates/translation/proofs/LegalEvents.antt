@@ -1,5 +1,5 @@
 -- The table of classes, modes and flags: what a legal event of a source recording says, and that its translation is legal in a chip
--- recording. Assumes nothing.
+-- recording.
 use mathlib.Core.Path.{_≡_, refl, sym, ap, _∙_}
 use mathlib.Core.Bool.{Bool, true, _&&_, _||_, false≢true}
 use mathlib.Core.List.{List}

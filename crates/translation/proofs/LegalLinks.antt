@@ -1,4 +1,4 @@
--- A recording that has what loading ensures passes the tests of its links: their conditions, one source per read, no ring of co. Assumes nothing.
+-- A recording that has what loading ensures passes the tests of its links: their conditions, one source per read, no ring of co.
 use mathlib.Core.Path.{_≡_, sym, ap, subst, _∙_}
 use mathlib.Core.Bool.{true, false, not, _&&_, false≢true}
 use mathlib.Core.Logic.{inl, inr}

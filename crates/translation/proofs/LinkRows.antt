@@ -1,4 +1,4 @@
--- Laws of the functions over links: the rows of their sources, and how many there are. Assumes nothing.
+-- Laws of the functions over links: the rows of their sources, and how many there are.
 use mathlib.Core.Path.{_≡_, refl, sym, ap, ap₂, subst, _∙_, fun-ext}
 use mathlib.Core.Bool.{Bool, true, false, _&&_, _||_}
 use mathlib.Core.List.{List, []}

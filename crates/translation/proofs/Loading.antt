@@ -1,4 +1,4 @@
--- Every translation of a source file that loads, loads, and is related to the source as `models` asks. Assumes nothing.
+-- Every translation of a source file that loads, loads, and is related to the source as `models` asks.
 use mathlib.Core.Path.{_≡_, refl, sym, ap, _∙_}
 use mathlib.Core.Bool.{true, false, not, _&&_, false≢true}
 use mathlib.Core.List.{List, _∷_, _++_}

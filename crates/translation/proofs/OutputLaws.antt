@@ -1,4 +1,4 @@
--- Laws of writing records into the output: byte by byte, and record after record. Assumes nothing.
+-- Laws of writing records into the output: byte by byte, and record after record.
 use mathlib.Core.Path.{_≡_, refl, sym, ap, _∙_}
 use mathlib.Core.List.{List, [], _++_, append-assoc}
 use Prim.Native.Nat.{ℕ, _+_, _<_, _≤_}

@@ -1,4 +1,4 @@
--- Laws of records written one after the other: how long they are, and what stands at each place. Assumes nothing.
+-- Laws of records written one after the other: how long they are, and what stands at each place.
 use mathlib.Core.Path.{_≡_, refl, sym, ap, ap₂, _∙_}
 use mathlib.Core.Bool.{Bool, true, false}
 use mathlib.Core.List.{List, [], _++_, append-nil, append-assoc}

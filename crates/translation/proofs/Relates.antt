@@ -1,5 +1,5 @@
 -- Where a recording says what contents say, and another what their translation says, the second is the translation of the first
--- as `models` has it. Assumes nothing.
+-- as `models` has it.
 use mathlib.Core.Path.{_≡_, refl, sym, ap, _∙_}
 use mathlib.Core.Bool.{Bool, true, false, _&&_, _||_, false≢true}
 use mathlib.Core.Logic.{_⊎_, inl, inr, _↔_}

@@ -1,4 +1,4 @@
--- Runs of numbers, and the chains that follow them: each number is followed by the next, and the last by 0. Assumes nothing.
+-- Runs of numbers, and the chains that follow them: each number is followed by the next, and the last by 0.
 use mathlib.Core.Path.{_≡_, refl, sym, ap, _∙_}
 use mathlib.Core.Bool.{Bool, true, false, not, _&&_, _||_, false≢true}
 use mathlib.Core.List.{List, [], _∷_, _++_}

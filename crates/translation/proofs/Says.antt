@@ -1,5 +1,5 @@
 -- A recording says of each event what contents say: the recording of a file says what its records say, and the recording of an
--- encoded file what was encoded. Assumes nothing.
+-- encoded file what was encoded.
 use mathlib.Core.Path.{_≡_, refl, sym, ap, ap₂, _∙_}
 use mathlib.Core.Bool.{true, _&&_}
 use mathlib.Core.List.{List}

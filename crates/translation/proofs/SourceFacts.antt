@@ -1,5 +1,4 @@
 -- What loading ensures of a source file for its translation: the limits, chains and links that the definitions and the code go by.
--- Assumes nothing.
 use mathlib.Core.Path.{_≡_}
 use mathlib.Core.Bool.{true, _&&_}
 use mathlib.Core.List.{List, []}

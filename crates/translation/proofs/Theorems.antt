@@ -1,4 +1,4 @@
--- The theorems of the translation of a source file that loads (01, "The translation"). Assumes nothing.
+-- The theorems of the translation of a source file that loads (01, "The translation").
 use mathlib.Core.Path.{_≡_}
 use mathlib.Core.List.{List}
 use Prim.Native.Nat.{ℕ, _≤_}

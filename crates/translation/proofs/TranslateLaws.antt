@@ -1,4 +1,4 @@
--- Laws of the translation's definitions: strong writes, inserted fences, the new chain and the new links. Assumes nothing.
+-- Laws of the translation's definitions: strong writes, inserted fences, the new chain and the new links.
 use mathlib.Core.Path.{_≡_, refl, ap, _∙_}
 use mathlib.Core.Bool.{Bool, true, false, _&&_, _||_}
 use mathlib.Core.Logic.{inl, inr}

@@ -1,5 +1,5 @@
 -- Chaining new numbers in: after each number of a set one new number of its own. Where nothing was met twice or never,
--- nothing is afterwards. Assumes nothing.
+-- nothing is afterwards.
 use mathlib.Core.Path.{_≡_, refl, sym, ap, subst, _∙_}
 use mathlib.Core.Bool.{Bool, true, false, not, _&&_, false≢true}
 use mathlib.Core.List.{List, [], _∷_, _++_}

@@ -1,4 +1,4 @@
--- Laws of the writers: the header, and records written one after the other. Assumes nothing.
+-- Laws of the writers: the header, and records written one after the other.
 use mathlib.Core.Path.{_≡_, refl, sym, ap, ap₂, subst, _∙_}
 use mathlib.Core.Bool.{true, false}
 use mathlib.Core.List.{List, [], _∷_, _++_}

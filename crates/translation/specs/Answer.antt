@@ -1,4 +1,4 @@
--- What a call of the translation answers and leaves (01, "The translation" and "Causes of refusal"). Assumes nothing.
+-- What a call of the translation answers and leaves (01, "The translation" and "Causes of refusal").
 use mathlib.Core.Bool.{true, false}
 use mathlib.Core.List.{List, _++_}
 use Prim.Native.Nat.{ℕ, zero, suc}

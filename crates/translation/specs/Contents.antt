@@ -1,5 +1,4 @@
 -- What the records of a file say, number by number (01, "The recording"): what the translation reads and what it makes.
--- Assumes nothing.
 use mathlib.Core.Bool.{Bool}
 use mathlib.Core.List.{List}
 use Prim.Native.Nat.{ℕ}

@@ -1,5 +1,5 @@
 -- The bytes of a recording whose links are a set: each link is written once, "ordered by target, type, source, and chained in that order"
--- (01, "The translation"; the records as in "The recording"). Assumes nothing.
+-- (01, "The translation"; the records as in "The recording").
 use mathlib.Core.Bool.{true, false}
 use mathlib.Core.List.{List, [], _∷_, _++_}
 use Prim.Native.Nat.{ℕ, zero, suc, _*_, _/_, _%_}

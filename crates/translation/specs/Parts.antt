@@ -1,4 +1,4 @@
--- What the parts of the translator ask for and answer. Assumes nothing.
+-- What the parts of the translator ask for and answer.
 use mathlib.Core.Path.{_≡_}
 use mathlib.Core.Bool.{Bool, true, false, _&&_}
 use mathlib.Core.List.{List, [], _∷_, _++_}

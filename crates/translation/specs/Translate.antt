@@ -1,4 +1,4 @@
--- The translation of a source recording (01, "The translation"), sentence by sentence. Assumes nothing.
+-- The translation of a source recording (01, "The translation"), sentence by sentence.
 use mathlib.Core.Bool.{Bool, true, false, _&&_, _||_}
 use Prim.Native.Nat.{ℕ, suc, _+_}
 use lib.Dec.{eqb, leb}

@@ -1,4 +1,4 @@
--- Laws of composition over the numbers of a row. Assumes nothing.
+-- Laws of composition over the numbers of a row.
 use mathlib.Core.Path.{_≡_, refl, sym, _∙_, fun-ext}
 use mathlib.Core.List.{List}
 use mathlib.Core.Bool.{Bool, true, false, _||_, false≢true}

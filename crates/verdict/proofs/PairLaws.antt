@@ -1,4 +1,4 @@
--- Laws of `some` and of the first pair of a relation. Assumes nothing.
+-- Laws of `some` and of the first pair of a relation.
 use mathlib.Core.Path.{_≡_, refl, sym, ap, ap₂, _∙_, fun-ext}
 use mathlib.Core.Bool.{Bool, true, false, not, _&&_, _||_, false≢true}
 use Prim.Native.Nat.{ℕ, _+_, _<_, _≤_}

@@ -1,4 +1,4 @@
--- Laws of the tries of the rules, in order: what they say of the verdict. Assumes nothing.
+-- Laws of the checks of the rules, in order: what they say of the verdict.
 use mathlib.Core.Path.{_≡_, refl, sym, ap, subst, _∙_}
 use mathlib.Core.Bool.{Bool, true, false, false≢true}
 use mathlib.Core.List.{List, [], _∷_}

@@ -1,5 +1,5 @@
 -- What a verdict says and shows means: the rules of the execution graph; every event exactly once where it is allowed;
--- and what breaks rule 1, 2 or 4 where it is that. Assumes nothing.
+-- and what breaks rule 1, 2 or 4 where it is that.
 use mathlib.Core.Path.{_≡_, refl, sym, ap, subst, _∙_}
 use mathlib.Core.Bool.{Bool, true, false, false≢true}
 use mathlib.Core.List.{List, [], _∷_}

@@ -1,4 +1,4 @@
--- Grids as the relations of a base: one law for each operator of a term, by the call that computes it. Assumes nothing.
+-- Grids as the relations of a base: one law for each operator of a term, by the call that computes it.
 use mathlib.Core.Path.{_≡_, sym, ap, ap₂, _∙_}
 use mathlib.Core.List.{List}
 use Prim.Native.Nat.{ℕ}

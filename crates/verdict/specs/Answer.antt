@@ -1,4 +1,4 @@
--- The answers of a verdict by 01's numbers. Assumes nothing.
+-- The answers of a verdict by 01's numbers.
 use Prim.Native.Nat.{ℕ, zero, suc}
 use Rattle.verdict.specs.declared.Answer.{Answer}
 use Rattle.verdict.specs.declared.Answer.the-variants.{Refused, Allowed, Broken}

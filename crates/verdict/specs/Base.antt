@@ -1,4 +1,4 @@
--- The base of an execution graph that two arrays hold: its sets as rows, its relations as grids. Assumes nothing.
+-- The base of an execution graph that two arrays hold: its sets as rows, its relations as grids.
 use mathlib.Core.List.{List, []}
 use Prim.Native.Nat.{ℕ}
 use lib.ListN.{getD}

@@ -1,4 +1,4 @@
--- What a verdict says and shows (01, "What is shown"), for any model. Assumes nothing.
+-- What a verdict says and shows (01, "What is shown"), for any model.
 use mathlib.Core.Path.{_≡_}
 use mathlib.Core.Bool.{true}
 use mathlib.Core.List.{List, [], _∷_}

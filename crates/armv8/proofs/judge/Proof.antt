@@ -1,4 +1,4 @@
--- `judge` meets its contract: its relations are those of the model, rule by rule. Assumes nothing.
+-- `judge` meets its contract: its relations are those of the model, rule by rule.
 use mathlib.Core.Path.{_≡_, refl, ap, subst, _∙_}
 use Rattle.relation.specs.Rel.{Rel, diagonal, nodes}
 use Rattle.relation.specs.Bits.{edge}

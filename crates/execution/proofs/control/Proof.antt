@@ -1,4 +1,4 @@
--- `control` meets its contract. Assumes nothing.
+-- `control` meets its contract.
 use mathlib.Core.Path.{ap₂, _∙_}
 use Rattle.relation.specs.Rel.{chain, optional, nodes}
 use Rattle.models.specs.Graph.{base}

@@ -1,4 +1,4 @@
--- `events` meets its contract. Assumes nothing.
+-- `events` meets its contract.
 use mathlib.Core.Path.{ap₂, _∙_}
 use Rattle.relation.specs.Rel.{union}
 use Rattle.models.specs.Recording.{event}

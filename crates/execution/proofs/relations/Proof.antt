@@ -1,4 +1,4 @@
--- `relations` meets its contract, place by place. Assumes nothing.
+-- `relations` meets its contract, place by place.
 use native.Mathlib.Omega.{arith}
 use Rattle.models.specs.Graph.{base}
 use Rattle.recording.proofs.Loaded.{loaded-sized, loaded-readable, loaded-legal, loaded-threads}

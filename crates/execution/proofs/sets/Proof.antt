@@ -1,4 +1,4 @@
--- `sets` meets its contract, place by place. Assumes nothing.
+-- `sets` meets its contract, place by place.
 use mathlib.Core.Path.{_≡_, refl, ap₂, _∙_}
 use Rattle.relation.specs.Rel.{union}
 use Rattle.models.specs.Recording.{event, acquireFence, releaseFence, R, W, F, Racq, Rex, Wrel, Wstrong, Facq, Frel, Fsc, Fld, Fsy}

@@ -1,4 +1,4 @@
--- `judge` meets its contract: its relations are those of the model, rule by rule, and a broken rule 3 has a ring. Assumes nothing.
+-- `judge` meets its contract: its relations are those of the model, rule by rule, and a broken rule 3 has a ring.
 use mathlib.Core.Path.{_≡_, refl, ap, ap₂, subst, _∙_}
 use Rattle.relation.specs.Rel.{either, diagonal, nodes}
 use Rattle.relation.specs.Bits.{bit, edge}

@@ -1,4 +1,4 @@
--- `both` meets its contract: the verdict on the file, that on its translation, and demand 3 of the two. Assumes nothing.
+-- `both` meets its contract: the verdict on the file, that on its translation, and demand 3 of the two.
 use Rattle.judgement.proofs.PrintLaws.{both-sound}
 use borrow.Author.Needs.{needs}
 use Rattle.judgement.proofs.both.Statement.{statement}

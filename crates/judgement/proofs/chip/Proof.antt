@@ -1,4 +1,4 @@
--- `chip` meets its contract: the translation is written, it loads, and it is judged. Assumes nothing.
+-- `chip` meets its contract: the translation is written, it loads, and it is judged.
 use denote.Ref.{now}
 use Rattle.judgement.proofs.ChipLaws.{Whole, not-refused, whole, chip-judged}
 use borrow.Author.Needs.{needs}

@@ -1,4 +1,4 @@
--- `of_input` meets its contract: what is read of an input gets what the input gets. Assumes nothing.
+-- `of_input` meets its contract: what is read of an input gets what the input gets.
 use mathlib.Core.Path.{_≡_, sym}
 use native.Mathlib.Omega.{arith}
 use lib.ListN.{length}

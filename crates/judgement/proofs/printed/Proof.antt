@@ -1,4 +1,4 @@
--- `printed` meets its contract: by what loading answers, and by the kind. Assumes nothing.
+-- `printed` meets its contract: by what loading answers, and by the kind.
 use mathlib.Core.Path.{_∙_}
 use Rattle.judgement.proofs.PrintLaws.{refusal-line, own-kind, other-kind, source-lines, chip-line}
 use borrow.Author.Needs.{needs}

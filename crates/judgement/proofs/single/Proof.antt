@@ -1,4 +1,4 @@
--- `single` meets its contract. Assumes nothing.
+-- `single` meets its contract.
 use mathlib.Core.List.{append-nil}
 use borrow.Author.Needs.{needs}
 use Rattle.judgement.proofs.single.Statement.{statement}

@@ -1,4 +1,4 @@
--- `line` meets its contract: by the answer, the parts that are put make the line. Assumes nothing.
+-- `line` meets its contract: by the answer, the parts that are put make the line.
 use Rattle.lines.proofs.LineLaws.{refused-line, allowed-line, broken-line}
 use borrow.Author.Needs.{needs}
 use Rattle.lines.proofs.line.Statement.{statement}

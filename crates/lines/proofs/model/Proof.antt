@@ -1,4 +1,4 @@
--- `model` meets its contract: each word is put where nothing stood. Assumes nothing.
+-- `model` meets its contract: each word is put where nothing stood.
 use mathlib.Core.Path.{sym, ap, _∙_}
 use native.Mathlib.Omega.{arith}
 use Rattle.lines.specs.Lines.{modelWord}

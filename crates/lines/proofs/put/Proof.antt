@@ -1,4 +1,4 @@
--- `put` meets its contract: one store behind what the text holds. Assumes nothing.
+-- `put` meets its contract: one store behind what the text holds.
 use Rattle.lines.proofs.PutLaws.{put-one}
 use borrow.Author.Needs.{needs}
 use Rattle.lines.proofs.put.Statement.{statement}

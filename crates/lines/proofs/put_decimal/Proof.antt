@@ -1,4 +1,4 @@
--- `put_decimal` meets its contract, by the number of digits. Assumes nothing.
+-- `put_decimal` meets its contract, by the number of digits.
 use Rattle.lines.proofs.PutLaws.{put-decimal1, put-decimal2, put-decimal3}
 use borrow.Author.Needs.{needs}
 use Rattle.lines.proofs.put_decimal.Statement.{statement}

@@ -1,4 +1,4 @@
--- `put_events` meets its contract: i of the events are put. Assumes nothing.
+-- `put_events` meets its contract: i of the events are put.
 use Prim.Native.Nat.{_-_, _≤_}
 use Rattle.lines.proofs.PutLaws.{Numbers, numbers-none, numbers-more, numbers-all}
 use borrow.Author.Needs.{needs}

@@ -1,4 +1,4 @@
--- `put_number` meets its contract: a number has at most three digits. Assumes nothing.
+-- `put_number` meets its contract: a number has at most three digits.
 use Rattle.lines.proofs.PutLaws.{put-then, number-short}
 use borrow.Author.Needs.{needs}
 use Rattle.lines.proofs.put_number.Statement.{statement}

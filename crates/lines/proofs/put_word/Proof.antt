@@ -1,4 +1,4 @@
--- `put_word` meets its contract: k bytes of the word are put. Assumes nothing.
+-- `put_word` meets its contract: k bytes of the word are put.
 use Prim.Native.Nat.{_-_}
 use lib.ListN.{length}
 use Rattle.lines.proofs.PutLaws.{Word, word-none, word-room, word-more, word-all}

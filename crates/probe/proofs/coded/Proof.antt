@@ -1,4 +1,4 @@
--- `coded` meets its contract. Assumes nothing.
+-- `coded` meets its contract.
 use mathlib.Core.Path.{refl}
 use Rattle.probe.specs.Calls.{coded}
 use borrow.Author.Needs.{needs}

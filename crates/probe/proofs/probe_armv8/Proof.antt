@@ -1,4 +1,4 @@
--- `probe_armv8` meets its contract. Assumes nothing.
+-- `probe_armv8` meets its contract.
 use Rattle.judgement.proofs.PrintLaws.{armv8-bounded}
 use borrow.Author.Needs.{needs}
 use Rattle.probe.proofs.probe_armv8.Statement.{statement}

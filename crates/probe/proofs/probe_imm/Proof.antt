@@ -1,4 +1,4 @@
--- `probe_imm` meets its contract. Assumes nothing.
+-- `probe_imm` meets its contract.
 use Rattle.judgement.proofs.PrintLaws.{imm-bounded}
 use borrow.Author.Needs.{needs}
 use Rattle.probe.proofs.probe_imm.Statement.{statement}

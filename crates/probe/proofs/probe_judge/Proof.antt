@@ -1,4 +1,4 @@
--- `probe_judge` meets its contract: both lines are stored, or nothing is. Assumes nothing.
+-- `probe_judge` meets its contract: both lines are stored, or nothing is.
 use mathlib.Core.Path.{_≡_, sym}
 use native.Mathlib.Omega.{arith}
 use lib.ListN.{length}

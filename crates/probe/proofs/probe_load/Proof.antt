@@ -1,4 +1,4 @@
--- `probe_load` meets its contract. Assumes nothing.
+-- `probe_load` meets its contract.
 use mathlib.Core.Path.{ap, _∙_}
 use Prim.Native.Nat.{ℕ}
 use Rattle.recording.specs.Load.{numberOf}

@@ -1,4 +1,4 @@
--- `probe_translate` meets its contract: the answer as a number. Assumes nothing.
+-- `probe_translate` meets its contract: the answer as a number.
 use mathlib.Core.Path.{ap, sym, _∙_}
 use Rattle.judgement.proofs.ChipLaws.{written-short}
 use Rattle.probe.specs.Calls.{codedTranslation}

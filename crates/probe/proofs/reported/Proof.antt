@@ -1,4 +1,4 @@
--- `reported` meets its contract, by the answer of the verdict. Assumes nothing.
+-- `reported` meets its contract, by the answer of the verdict.
 use mathlib.Core.Path.{_≡_, sym}
 use native.Mathlib.Omega.{arith}
 use lib.ListN.{length}

@@ -1,4 +1,4 @@
--- `stored` meets its contract: the bytes are stored, or nothing is. Assumes nothing.
+-- `stored` meets its contract: the bytes are stored, or nothing is.
 use native.Mathlib.Omega.{arith}
 use Rattle.probe.proofs.CallLaws.{stored-short, stored-fits}
 use borrow.Author.Needs.{needs}

@@ -1,4 +1,4 @@
--- `show` is safe: it prints only what lies in the array. Assumes nothing.
+-- `show` is safe: it prints only what lies in the array.
 use mathlib.Core.Path.{_≡_}
 use Prim.Native.Nat.{_≤_, _-_}
 use lib.ListN.{length}

@@ -1,4 +1,4 @@
--- `translate` meets its contract: refused as loading says, or written. Assumes nothing.
+-- `translate` meets its contract: refused as loading says, or written.
 use mathlib.Core.Path.{sym, _∙_}
 use Rattle.translation.proofs.CallLaws.{refused-early}
 use borrow.Author.Needs.{needs}

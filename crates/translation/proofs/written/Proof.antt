@@ -1,4 +1,4 @@
--- `written` meets its contract: refused before anything is written, or written part by part. Assumes nothing.
+-- `written` meets its contract: refused before anything is written, or written part by part.
 use mathlib.Core.Path.{ap, _∙_}
 use mathlib.Core.List.{[]}
 use native.Mathlib.Omega.{arith}

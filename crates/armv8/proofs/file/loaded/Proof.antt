@@ -1,4 +1,4 @@
--- `file::loaded` meets its contract: judged by the arrays of its execution. Assumes nothing.
+-- `file::loaded` meets its contract: judged by the arrays of its execution.
 use Rattle.recording.proofs.CauseLaws.{cause-goes-on}
 use Rattle.execution.proofs.BaseOf.{on-recording}
 use Rattle.armv8.specs.Judged.{Judged}

@@ -1,4 +1,4 @@
--- `ob::aob` meets its contract: its definition, call by call. Assumes nothing.
+-- `ob::aob` meets its contract: its definition, call by call.
 use Rattle.models.specs.Term.{eval}
 use Rattle.models.specs.Armv8.{aob}
 use Rattle.verdict.proofs.TermLaws.{holds, given, is-union, is-into, is-from-codom}

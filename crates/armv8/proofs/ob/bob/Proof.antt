@@ -1,4 +1,4 @@
--- `ob::bob` meets its contract: its definition, call by call. Assumes nothing.
+-- `ob::bob` meets its contract: its definition, call by call.
 use Rattle.models.specs.Term.{eval}
 use Rattle.models.specs.Armv8.{bob}
 use Rattle.verdict.proofs.TermLaws.{holds, given, is-union, is-then, is-opt, is-from, is-into, is-assoc}

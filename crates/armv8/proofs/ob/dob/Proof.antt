@@ -1,4 +1,4 @@
--- `ob::dob` meets its contract: its definition, call by call. Assumes nothing.
+-- `ob::dob` meets its contract: its definition, call by call.
 use Rattle.models.specs.Term.{eval}
 use Rattle.models.specs.Armv8.{dob}
 use Rattle.verdict.proofs.TermLaws.{holds, given, is-union, is-then, is-opt, is-into, is-assoc}

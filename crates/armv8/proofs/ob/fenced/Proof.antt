@@ -1,4 +1,4 @@
--- `ob::fenced` meets its contract: what lies behind a fence of either kind is reached together. Assumes nothing.
+-- `ob::fenced` meets its contract: what lies behind a fence of either kind is reached together.
 use mathlib.Core.Path.{refl, ap, _∙_}
 use Rattle.relation.specs.Rel.{Rel, chain, nodes}
 use Rattle.relation.specs.Bits.{edge}

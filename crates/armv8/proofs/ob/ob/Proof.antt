@@ -1,4 +1,4 @@
--- `ob::ob` meets its contract: its parts, one after the other. Assumes nothing.
+-- `ob::ob` meets its contract: its parts, one after the other.
 use mathlib.Core.Path.{refl}
 use Rattle.models.specs.Term.{eval}
 use Rattle.models.specs.Armv8.{ob}

@@ -1,4 +1,4 @@
--- `ob::obs` meets its contract: its definition, call by call. Assumes nothing.
+-- `ob::obs` meets its contract: its definition, call by call.
 use Rattle.models.specs.Armv8.{obs}
 use Rattle.verdict.proofs.TermLaws.{holds, given, is-union}
 use borrow.Author.Needs.{needs}

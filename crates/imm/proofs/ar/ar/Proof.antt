@@ -1,4 +1,4 @@
--- `ar::ar` meets its contract: its parts, one after the other. Assumes nothing.
+-- `ar::ar` meets its contract: its parts, one after the other.
 use mathlib.Core.Path.{refl}
 use Rattle.models.specs.Term.{eval}
 use Rattle.models.specs.Imm.{ar}

@@ -1,4 +1,4 @@
--- `ar::bob` meets its contract: its definition, call by call. Assumes nothing.
+-- `ar::bob` meets its contract: its definition, call by call.
 use Rattle.models.specs.Term.{eval}
 use Rattle.models.specs.Imm.{bob}
 use Rattle.verdict.proofs.TermLaws.{holds, given, is-union, is-from, is-into}

@@ -1,4 +1,4 @@
--- `ar::deps` meets its contract: its definition, call by call. Assumes nothing.
+-- `ar::deps` meets its contract: its definition, call by call.
 use mathlib.Core.Path.{refl}
 use Rattle.models.specs.Term.{eval}
 use Rattle.models.specs.Imm.{deps}

@@ -1,4 +1,4 @@
--- `ar::detour` meets its contract: its definition, call by call. Assumes nothing.
+-- `ar::detour` meets its contract: its definition, call by call.
 use Rattle.models.specs.Term.{eval}
 use Rattle.models.specs.Imm.{detour}
 use Rattle.verdict.proofs.TermLaws.{holds, given, is-meet, is-then}

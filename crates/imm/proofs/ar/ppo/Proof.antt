@@ -1,4 +1,4 @@
--- `ar::ppo` meets its contract: its definition, call by call. Assumes nothing.
+-- `ar::ppo` meets its contract: its definition, call by call.
 use Rattle.models.specs.Imm.{ppo}
 use Rattle.verdict.proofs.TermLaws.{holds, given, is-union, is-plus, is-from, is-into}
 use borrow.Author.Needs.{needs}

@@ -1,4 +1,4 @@
--- `ar::psc` meets its contract: from SC fences only, and into them only. Assumes nothing.
+-- `ar::psc` meets its contract: from SC fences only, and into them only.
 use Rattle.models.specs.Imm.{psc}
 use Rattle.verdict.proofs.TermLaws.{holds, given, is-then, is-from, is-into, is-assoc}
 use borrow.Author.Needs.{needs}

@@ -1,4 +1,4 @@
--- `file::verdict` meets its contract: refused before the verdict begins, or judged. Assumes nothing.
+-- `file::verdict` meets its contract: refused before the verdict begins, or judged.
 use mathlib.Core.Path.{sym, _∙_}
 use Rattle.execution.proofs.BaseOf.{on-refused, on-loaded}
 use Rattle.imm.specs.Judged.{Judged}

@@ -1,4 +1,4 @@
--- `hb::eco` meets its contract: co and fr go on together. Assumes nothing.
+-- `hb::eco` meets its contract: co and fr go on together.
 use mathlib.Core.Path.{refl, sym, ap, _∙_}
 use Rattle.relation.specs.Rel.{Rel, either, chain, nodes}
 use Rattle.relation.specs.Bits.{edge}

@@ -1,4 +1,4 @@
--- `hb::release` meets its contract: its definition, call by call. Assumes nothing.
+-- `hb::release` meets its contract: its definition, call by call.
 use Rattle.models.specs.Term.{eval}
 use Rattle.models.specs.Imm.{release}
 use Rattle.verdict.proofs.TermLaws.{holds, given, is-union, is-then, is-set, is-from}

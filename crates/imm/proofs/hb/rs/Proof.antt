@@ -1,4 +1,4 @@
--- `hb::rs` meets its contract: its definition, call by call. Assumes nothing.
+-- `hb::rs` meets its contract: its definition, call by call.
 use Rattle.models.specs.Term.{eval}
 use Rattle.models.specs.Imm.{rs}
 use Rattle.verdict.proofs.TermLaws.{holds, given, is-union, is-then, is-opt, is-star, is-from, is-into}

@@ -1,4 +1,4 @@
--- `hb::steps` meets its contract: release sequence, release and sw, one after the other. Assumes nothing.
+-- `hb::steps` meets its contract: release sequence, release and sw, one after the other.
 use mathlib.Core.Path.{refl}
 use Rattle.models.specs.Term.{po, _∪_, eval}
 use Rattle.models.specs.Imm.{sw}

@@ -1,4 +1,4 @@
--- `hb::sw` meets its contract: its definition, call by call. Assumes nothing.
+-- `hb::sw` meets its contract: its definition, call by call.
 use Rattle.models.specs.Term.{eval}
 use Rattle.models.specs.Imm.{sw}
 use Rattle.verdict.proofs.TermLaws.{holds, given, is-union, is-then, is-opt, is-set, is-into}

@@ -1,4 +1,4 @@
--- `causes::body_refusal` meets its contract: the first cause that applies. Assumes nothing.
+-- `causes::body_refusal` meets its contract: the first cause that applies.
 use mathlib.Core.Path.{sym, _∙_}
 use borrow.Author.Tests.{not-false}
 use Rattle.recording.specs.Causes.{badThreads}

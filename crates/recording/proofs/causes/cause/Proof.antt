@@ -1,4 +1,4 @@
--- `causes::cause` meets its contract, by what loading answered. Assumes nothing.
+-- `causes::cause` meets its contract, by what loading answered.
 use Rattle.recording.proofs.CauseLaws.{cause-refused, cause-other, cause-none}
 use borrow.Author.Needs.{needs}
 use Rattle.recording.proofs.causes.cause.Statement.{statement}

@@ -1,4 +1,4 @@
--- `causes::chains_sound` meets its contract. Assumes nothing.
+-- `causes::chains_sound` meets its contract.
 use Rattle.recording.proofs.CauseLaws.{chains-are}
 use borrow.Author.Needs.{needs}
 use Rattle.recording.proofs.causes.chains_sound.Statement.{statement}

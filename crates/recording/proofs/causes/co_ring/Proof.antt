@@ -1,4 +1,4 @@
--- `causes::co_ring` meets its contract. Assumes nothing.
+-- `causes::co_ring` meets its contract.
 use mathlib.Core.Path.{ap, _∙_}
 use Prim.Native.Nat.{ℕ}
 use lib.Dec.{ltb}

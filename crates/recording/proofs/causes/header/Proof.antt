@@ -1,4 +1,4 @@
--- `causes::header` meets its contract. Assumes nothing.
+-- `causes::header` meets its contract.
 use mathlib.Core.Path.{refl}
 use native.Mathlib.Omega.{arith}
 use borrow.Author.Needs.{needs}

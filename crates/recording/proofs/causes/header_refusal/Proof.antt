@@ -1,4 +1,4 @@
--- `causes::header_refusal` meets its contract: the first cause that applies. Assumes nothing.
+-- `causes::header_refusal` meets its contract: the first cause that applies.
 use mathlib.Core.Path.{sym, _∙_}
 use native.Mathlib.Omega.{arith}
 use borrow.Author.Tests.{not-true, not-false}

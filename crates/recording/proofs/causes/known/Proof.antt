@@ -1,4 +1,4 @@
--- `causes::known` meets its contract. Assumes nothing.
+-- `causes::known` meets its contract.
 use mathlib.Core.Path.{refl}
 use borrow.Author.Tests.{eq-eqb, ne-eqb}
 use Rattle.recording.specs.Layout.{kindKnown}

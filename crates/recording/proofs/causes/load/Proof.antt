@@ -1,4 +1,4 @@
--- `causes::load` meets its contract. Assumes nothing.
+-- `causes::load` meets its contract.
 use Rattle.recording.proofs.CauseLaws.{refused-header, refused-body, load-refused, load-loaded, sized-8}
 use borrow.Author.Needs.{needs}
 use Rattle.recording.proofs.causes.load.Statement.{statement}

@@ -1,4 +1,4 @@
--- `causes::most_events` meets its contract. Assumes nothing.
+-- `causes::most_events` meets its contract.
 use mathlib.Core.Path.{sym, _∙_}
 use Rattle.recording.specs.Layout.{mostEvents}
 use borrow.Author.Needs.{needs}

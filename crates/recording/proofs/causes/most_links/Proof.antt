@@ -1,4 +1,4 @@
--- `causes::most_links` meets its contract. Assumes nothing.
+-- `causes::most_links` meets its contract.
 use mathlib.Core.Path.{sym, _∙_}
 use Rattle.recording.specs.Layout.{mostLinks}
 use borrow.Author.Needs.{needs}

@@ -1,4 +1,4 @@
--- `causes::number` meets its contract, by cases. Assumes nothing.
+-- `causes::number` meets its contract, by cases.
 use mathlib.Core.Path.{sym, ap}
 use Rattle.recording.specs.Load.{numberOf}
 use borrow.Author.Needs.{needs}

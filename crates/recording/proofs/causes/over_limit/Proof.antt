@@ -1,4 +1,4 @@
--- `causes::over_limit` meets its contract. Assumes nothing.
+-- `causes::over_limit` meets its contract.
 use Rattle.recording.proofs.CauseLaws.{over-events, over-locations, over-links}
 use borrow.Author.Needs.{needs}
 use Rattle.recording.proofs.causes.over_limit.Statement.{statement}

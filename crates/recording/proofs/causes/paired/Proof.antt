@@ -1,4 +1,4 @@
--- `causes::paired` meets its contract, event by event. Assumes nothing.
+-- `causes::paired` meets its contract, event by event.
 use mathlib.Core.Path.{_≡_, refl, sym, _∙_}
 use mathlib.Core.Bool.{true}
 use Prim.Native.Nat.{ℕ, _-_, _≤_}

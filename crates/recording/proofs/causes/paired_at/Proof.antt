@@ -1,4 +1,4 @@
--- `causes::paired_at` meets its contract. Assumes nothing.
+-- `causes::paired_at` meets its contract.
 use mathlib.Core.Path.{sym, _∙_}
 use borrow.Author.Tests.{not-true, not-false}
 use Rattle.recording.proofs.CauseLaws.{paired-no, paired-yes}

@@ -1,4 +1,4 @@
--- `causes::threads_sound` meets its contract. Assumes nothing.
+-- `causes::threads_sound` meets its contract.
 use Rattle.recording.proofs.CauseLaws.{threads-are}
 use borrow.Author.Needs.{needs}
 use Rattle.recording.proofs.causes.threads_sound.Statement.{statement}

@@ -1,4 +1,4 @@
--- `chain::all_marked` meets its contract. Assumes nothing.
+-- `chain::all_marked` meets its contract.
 use mathlib.Core.Path.{_≡_, refl, sym, ap, _∙_}
 use mathlib.Core.Bool.{true}
 use mathlib.Core.List.{List}

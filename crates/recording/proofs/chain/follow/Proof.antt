@@ -1,4 +1,4 @@
--- `chain::follow` meets its contract: what is left of the chain decides what the whole does. Assumes nothing.
+-- `chain::follow` meets its contract: what is left of the chain decides what the whole does.
 use mathlib.Core.Path.{_≡_, sym, ap, _∙_}
 use mathlib.Core.List.{List}
 use Prim.Native.Nat.{ℕ, _+_, _-_, _≤_, _<_}

@@ -1,4 +1,4 @@
--- `chain::once_each` meets its contract, chain by chain. Assumes nothing.
+-- `chain::once_each` meets its contract, chain by chain.
 use Prim.Native.Nat.{ℕ, _-_, _≤_}
 use native.Mathlib.Omega.{arith}
 use borrow.Author.Tests.{not-true, not-false}

@@ -1,4 +1,4 @@
--- `field::class_of` meets its contract. Assumes nothing.
+-- `field::class_of` meets its contract.
 use Rattle.recording.specs.Decode.{decode}
 use borrow.Author.Needs.{needs}
 use Rattle.recording.proofs.field.class_of.Statement.{statement}

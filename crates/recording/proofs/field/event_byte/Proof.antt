@@ -1,4 +1,4 @@
--- `field::event_byte` meets its contract: a record lies within the file. Assumes nothing.
+-- `field::event_byte` meets its contract: a record lies within the file.
 use mathlib.Core.Path.{refl}
 use Prim.Native.Nat.{_+_, _-_, _*_}
 use native.Mathlib.Omega.{arith}

@@ -1,4 +1,4 @@
--- `field::field` meets its contract, by the cases of its definition. Assumes nothing.
+-- `field::field` meets its contract, by the cases of its definition.
 use mathlib.Core.Path.{sym, _∙_}
 use Rattle.recording.proofs.FieldLaws.{recorded-bounds, field-initial, field-recorded, field-none}
 use borrow.Author.Needs.{needs}

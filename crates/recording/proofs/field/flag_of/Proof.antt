@@ -1,4 +1,4 @@
--- `field::flag_of` meets its contract. Assumes nothing.
+-- `field::flag_of` meets its contract.
 use Rattle.recording.specs.Decode.{decode}
 use borrow.Author.Needs.{needs}
 use Rattle.recording.proofs.field.flag_of.Statement.{statement}

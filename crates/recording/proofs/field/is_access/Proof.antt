@@ -1,4 +1,4 @@
--- `field::is_access` meets its contract: its definition, test by test. Assumes nothing.
+-- `field::is_access` meets its contract: its definition, test by test.
 use Rattle.models.specs.Recording.{access}
 use Rattle.recording.proofs.FieldLaws.{or-yes, or-no}
 use borrow.Author.Needs.{needs}

@@ -1,4 +1,4 @@
--- `field::is_event` meets its contract: its definition, test by test. Assumes nothing.
+-- `field::is_event` meets its contract: its definition, test by test.
 use Rattle.models.specs.Recording.{event}
 use Rattle.recording.specs.Decode.{decode}
 use Rattle.recording.proofs.FieldLaws.{or-yes, or-no}

@@ -1,4 +1,4 @@
--- `field::is_flagged` meets its contract: its definition, test by test. Assumes nothing.
+-- `field::is_flagged` meets its contract: its definition, test by test.
 use Rattle.models.specs.Recording.{flagged}
 use Rattle.recording.proofs.FieldLaws.{and-yes, and-no, is-number}
 use borrow.Author.Needs.{needs}

@@ -1,4 +1,4 @@
--- `field::is_initial` meets its contract. Assumes nothing.
+-- `field::is_initial` meets its contract.
 use mathlib.Core.Path.{ap, _∙_}
 use Prim.Native.Nat.{ℕ, _+_}
 use lib.Dec.{ltb}

@@ -1,4 +1,4 @@
--- `field::is_recorded` meets its contract. Assumes nothing.
+-- `field::is_recorded` meets its contract.
 use Rattle.recording.proofs.FieldLaws.{recorded-yes, recorded-no}
 use borrow.Author.Needs.{needs}
 use Rattle.recording.proofs.field.is_recorded.Statement.{statement}

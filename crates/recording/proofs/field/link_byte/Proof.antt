@@ -1,4 +1,4 @@
--- `field::link_byte` meets its contract: a record lies within the file. Assumes nothing.
+-- `field::link_byte` meets its contract: a record lies within the file.
 use mathlib.Core.Path.{ap}
 use Prim.Native.Nat.{ℕ, _+_, _-_, _*_}
 use native.Mathlib.Omega.{arith}

@@ -1,4 +1,4 @@
--- `field::links` meets its contract. Assumes nothing.
+-- `field::links` meets its contract.
 use mathlib.Core.Path.{refl}
 use native.Mathlib.Omega.{arith}
 use borrow.Author.Needs.{needs}

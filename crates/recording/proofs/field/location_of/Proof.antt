@@ -1,4 +1,4 @@
--- `field::location_of` meets its contract. Assumes nothing.
+-- `field::location_of` meets its contract.
 use mathlib.Core.Path.{_∙_}
 use Rattle.recording.specs.Decode.{decode}
 use Rattle.recording.proofs.FieldLaws.{location-initial, location-recorded}

@@ -1,4 +1,4 @@
--- `field::of_class` meets its contract: its definition, test by test. Assumes nothing.
+-- `field::of_class` meets its contract: its definition, test by test.
 use Rattle.models.specs.Recording.{ofClass}
 use Rattle.recording.proofs.FieldLaws.{and-yes, and-no, is-number}
 use borrow.Author.Needs.{needs}

@@ -1,4 +1,4 @@
--- `field::value_of` meets its contract. Assumes nothing.
+-- `field::value_of` meets its contract.
 use mathlib.Core.Path.{ap₂}
 use Prim.Native.Nat.{ℕ, _+_, _*_}
 use Rattle.recording.specs.Decode.{decode}

@@ -1,4 +1,4 @@
--- `graph::by_location` meets its contract, event by event. Assumes nothing.
+-- `graph::by_location` meets its contract, event by event.
 use mathlib.Core.Path.{_≡_}
 use mathlib.Core.Logic.{inl, inr}
 use Prim.Native.Nat.{ℕ, _+_, _-_, _≤_}

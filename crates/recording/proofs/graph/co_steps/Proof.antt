@@ -1,4 +1,4 @@
--- `graph::co_steps` meets its contract, call by call. Assumes nothing.
+-- `graph::co_steps` meets its contract, call by call.
 use Rattle.recording.proofs.GraphLaws.{co-is}
 use Rattle.recording.proofs.SortLaws.{all-recorded, recorded-writes}
 use borrow.Author.Needs.{needs}

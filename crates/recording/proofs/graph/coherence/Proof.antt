@@ -1,4 +1,4 @@
--- `graph::coherence` meets its contract, call by call. Assumes nothing.
+-- `graph::coherence` meets its contract, call by call.
 use mathlib.Core.Path.{ap, _∙_}
 use Rattle.relation.specs.Rel.{plus, nodes}
 use Rattle.models.specs.Graph.{base}

@@ -1,4 +1,4 @@
--- `graph::link_rows` meets its contract, row by row. Assumes nothing.
+-- `graph::link_rows` meets its contract, row by row.
 use mathlib.Core.Path.{_≡_}
 use Prim.Native.Nat.{ℕ, _-_, _≤_}
 use Rattle.relation.specs.Rel.{none, inverse}

@@ -1,4 +1,4 @@
--- `graph::links` meets its contract. Assumes nothing.
+-- `graph::links` meets its contract.
 use mathlib.Core.Path.{ap, _∙_}
 use Rattle.relation.specs.Rel.{inverse}
 use borrow.Author.Needs.{needs}

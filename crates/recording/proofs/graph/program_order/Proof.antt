@@ -1,4 +1,4 @@
--- `graph::program_order` meets its contract: from the end of the line on, the row of each event. Assumes nothing.
+-- `graph::program_order` meets its contract: from the end of the line on, the row of each event.
 use mathlib.Core.Path.{_≡_, refl}
 use mathlib.Core.Bool.{true}
 use Prim.Native.Nat.{_-_, _≤_}

@@ -1,4 +1,4 @@
--- `graph::rows_by_type` meets its contract, row by row. Assumes nothing.
+-- `graph::rows_by_type` meets its contract, row by row.
 use mathlib.Core.Path.{_≡_}
 use Prim.Native.Nat.{ℕ, _-_, _≤_}
 use native.Mathlib.Omega.{arith}

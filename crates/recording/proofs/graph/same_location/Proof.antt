@@ -1,4 +1,4 @@
--- `graph::same_location` meets its contract, event by event. Assumes nothing.
+-- `graph::same_location` meets its contract, event by event.
 use mathlib.Core.Path.{_≡_}
 use mathlib.Core.Bool.{true}
 use mathlib.Core.Logic.{inl, inr}

@@ -1,4 +1,4 @@
--- `graph::sources_of` meets its contract. Assumes nothing.
+-- `graph::sources_of` meets its contract.
 use mathlib.Core.Path.{sym, _∙_}
 use borrow.Author.Tests.{not-true, not-false}
 use Rattle.recording.proofs.FieldLaws.{recorded-bounds}

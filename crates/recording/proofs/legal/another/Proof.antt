@@ -1,4 +1,4 @@
--- `legal::another` meets its contract. Assumes nothing.
+-- `legal::another` meets its contract.
 use mathlib.Core.Path.{refl, sym, ap, _∙_}
 use mathlib.Core.Bool.{not}
 use borrow.Author.Tests.{eq-eqb, ne-eqb, not-true, not-false}

@@ -1,4 +1,4 @@
--- `legal::between` meets its contract. Assumes nothing.
+-- `legal::between` meets its contract.
 use mathlib.Core.Path.{refl}
 use borrow.Author.Tests.{le-leb, lt-leb}
 use Rattle.recording.proofs.FieldLaws.{and-yes, and-no}

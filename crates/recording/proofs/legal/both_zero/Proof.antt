@@ -1,4 +1,4 @@
--- `legal::both_zero` meets its contract. Assumes nothing.
+-- `legal::both_zero` meets its contract.
 use mathlib.Core.Path.{refl}
 use borrow.Author.Tests.{eq-eqb, ne-eqb}
 use Rattle.recording.proofs.FieldLaws.{and-yes, and-no}

@@ -1,4 +1,4 @@
--- `legal::classes` meets its contract: its definition, test by test. Assumes nothing.
+-- `legal::classes` meets its contract: its definition, test by test.
 use Rattle.recording.proofs.FieldLaws.{and-yes, and-no}
 use borrow.Author.Needs.{needs}
 use Rattle.recording.proofs.legal.classes.Statement.{statement}

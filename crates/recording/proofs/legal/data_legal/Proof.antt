@@ -1,4 +1,4 @@
--- `legal::data_legal` meets its contract: its definition, test by test. Assumes nothing.
+-- `legal::data_legal` meets its contract: its definition, test by test.
 use Rattle.recording.specs.Causes.{dataLegal}
 use Rattle.recording.proofs.FieldLaws.{and-yes, and-no}
 use borrow.Author.Needs.{needs}

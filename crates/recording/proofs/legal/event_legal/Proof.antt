@@ -1,4 +1,4 @@
--- `legal::event_legal` meets its contract. Assumes nothing.
+-- `legal::event_legal` meets its contract.
 use mathlib.Core.Path.{_∙_}
 use native.Mathlib.Omega.{arith}
 use Rattle.recording.proofs.LegalLaws.{event-legal}

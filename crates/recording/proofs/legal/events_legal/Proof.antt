@@ -1,4 +1,4 @@
--- `legal::events_legal` meets its contract, event by event. Assumes nothing.
+-- `legal::events_legal` meets its contract, event by event.
 use mathlib.Core.Path.{_≡_, refl, sym, ap, _∙_}
 use mathlib.Core.Bool.{true}
 use Prim.Native.Nat.{ℕ, _-_, _≤_}

@@ -1,4 +1,4 @@
--- `legal::exclusive_to_write` meets its contract: its definition, test by test. Assumes nothing.
+-- `legal::exclusive_to_write` meets its contract: its definition, test by test.
 use Rattle.recording.proofs.FieldLaws.{and-yes, and-no}
 use borrow.Author.Needs.{needs}
 use Rattle.recording.proofs.legal.exclusive_to_write.Statement.{statement}

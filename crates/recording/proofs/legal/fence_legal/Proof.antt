@@ -1,4 +1,4 @@
--- `legal::fence_legal` meets its contract. Assumes nothing.
+-- `legal::fence_legal` meets its contract.
 use mathlib.Core.Path.{refl}
 use Rattle.recording.specs.Causes.{fenceLegal}
 use Rattle.recording.proofs.FieldLaws.{and-yes, and-no}

@@ -1,4 +1,4 @@
--- `legal::fence_mode` meets its contract, by kind. Assumes nothing.
+-- `legal::fence_mode` meets its contract, by kind.
 use mathlib.Core.Path.{sym, _∙_}
 use Rattle.recording.specs.Causes.{fenceMode}
 use borrow.Author.Needs.{needs}

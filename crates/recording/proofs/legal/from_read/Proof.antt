@@ -1,4 +1,4 @@
--- `legal::from_read` meets its contract. Assumes nothing.
+-- `legal::from_read` meets its contract.
 use mathlib.Core.Path.{sym, _∙_}
 use Rattle.recording.specs.Causes.{fromRead}
 use Rattle.recording.proofs.FieldLaws.{and-yes, and-no, class-small}

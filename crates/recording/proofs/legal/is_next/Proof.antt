@@ -1,4 +1,4 @@
--- `legal::is_next` meets its contract. Assumes nothing.
+-- `legal::is_next` meets its contract.
 use mathlib.Core.Path.{sym, _∙_}
 use borrow.Author.Tests.{not-true, not-false}
 use Rattle.recording.proofs.FieldLaws.{recorded-bounds}

@@ -1,4 +1,4 @@
--- `legal::is_source` meets its contract. Assumes nothing.
+-- `legal::is_source` meets its contract.
 use mathlib.Core.Path.{refl}
 use Rattle.recording.specs.Layout.{isSource}
 use Rattle.recording.proofs.legal.is_source.Statement.{statement}

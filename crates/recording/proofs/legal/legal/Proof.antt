@@ -1,4 +1,4 @@
--- `legal::legal` meets its contract, by class. Assumes nothing.
+-- `legal::legal` meets its contract, by class.
 use mathlib.Core.Path.{refl}
 use Rattle.recording.proofs.FieldLaws.{and-yes, and-no}
 use Rattle.recording.proofs.LegalLaws.{legal-read, legal-write, legal-fence, legal-other}

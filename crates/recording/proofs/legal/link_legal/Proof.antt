@@ -1,4 +1,4 @@
--- `legal::link_legal` meets its contract, by type. Assumes nothing.
+-- `legal::link_legal` meets its contract, by type.
 use Rattle.recording.proofs.LegalLaws.{link-rf, link-co, link-rmw, link-data, link-addr, link-ctrl, link-casdep, link-other}
 use borrow.Author.Needs.{needs}
 use Rattle.recording.proofs.legal.link_legal.Statement.{statement}

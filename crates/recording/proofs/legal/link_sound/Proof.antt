@@ -1,4 +1,4 @@
--- `legal::link_sound` meets its contract. Assumes nothing.
+-- `legal::link_sound` meets its contract.
 use mathlib.Core.Path.{ap, sym, subst, _∙_}
 use Prim.Native.Nat.{ℕ, _<_}
 use Rattle.relation.specs.Rel.{nodes}

@@ -1,4 +1,4 @@
--- `legal::read_legal` meets its contract. Assumes nothing.
+-- `legal::read_legal` meets its contract.
 use mathlib.Core.Path.{refl}
 use borrow.Author.Tests.{le-leb, lt-leb}
 use Rattle.recording.specs.Causes.{readLegal}

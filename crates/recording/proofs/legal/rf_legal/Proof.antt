@@ -1,4 +1,4 @@
--- `legal::rf_legal` meets its contract: its definition, test by test. Assumes nothing.
+-- `legal::rf_legal` meets its contract: its definition, test by test.
 use Rattle.recording.specs.Causes.{rfLegal}
 use Rattle.recording.proofs.FieldLaws.{and-yes, and-no}
 use borrow.Author.Needs.{needs}

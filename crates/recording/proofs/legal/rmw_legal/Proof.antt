@@ -1,4 +1,4 @@
--- `legal::rmw_legal` meets its contract: its definition, test by test. Assumes nothing.
+-- `legal::rmw_legal` meets its contract: its definition, test by test.
 use Rattle.recording.specs.Causes.{rmwLegal}
 use Rattle.recording.proofs.FieldLaws.{and-yes, and-no}
 use borrow.Author.Needs.{needs}

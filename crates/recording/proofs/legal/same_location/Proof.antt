@@ -1,4 +1,4 @@
--- `legal::same_location` meets its contract. Assumes nothing.
+-- `legal::same_location` meets its contract.
 use mathlib.Core.Path.{ap₂}
 use lib.Dec.{eqb}
 use Rattle.recording.specs.Causes.{sameLocations}

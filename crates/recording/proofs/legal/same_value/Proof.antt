@@ -1,4 +1,4 @@
--- `legal::same_value` meets its contract. Assumes nothing.
+-- `legal::same_value` meets its contract.
 use mathlib.Core.Path.{ap₂}
 use lib.Dec.{eqb}
 use Rattle.recording.proofs.FieldLaws.{and-yes, and-no}

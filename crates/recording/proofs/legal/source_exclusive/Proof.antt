@@ -1,4 +1,4 @@
--- `legal::source_exclusive` meets its contract: its definition, test by test. Assumes nothing.
+-- `legal::source_exclusive` meets its contract: its definition, test by test.
 use native.Mathlib.Omega.{arith}
 use Rattle.recording.proofs.FieldLaws.{and-yes, and-no}
 use borrow.Author.Needs.{needs}

@@ -1,4 +1,4 @@
--- `legal::write_flag` meets its contract. Assumes nothing.
+-- `legal::write_flag` meets its contract.
 use mathlib.Core.Path.{refl, sym, _∙_}
 use borrow.Author.Tests.{eq-eqb, ne-eqb}
 use Rattle.recording.proofs.FieldLaws.{and-yes, and-no, or-yes, or-no}

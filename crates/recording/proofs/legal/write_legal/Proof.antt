@@ -1,4 +1,4 @@
--- `legal::write_legal` meets its contract. Assumes nothing.
+-- `legal::write_legal` meets its contract.
 use Rattle.recording.specs.Causes.{writeLegal}
 use Rattle.recording.proofs.FieldLaws.{and-yes, and-no}
 use borrow.Author.Needs.{needs}

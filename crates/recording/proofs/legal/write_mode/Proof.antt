@@ -1,4 +1,4 @@
--- `legal::write_mode` meets its contract. Assumes nothing.
+-- `legal::write_mode` meets its contract.
 use mathlib.Core.Path.{refl}
 use borrow.Author.Tests.{eq-eqb, ne-eqb}
 use Rattle.recording.proofs.FieldLaws.{or-yes, or-no}

@@ -1,4 +1,4 @@
--- `links::one_source` meets its contract: no member is left without the least. Assumes nothing.
+-- `links::one_source` meets its contract: no member is left without the least.
 use mathlib.Core.Path.{ap, _∙_}
 use Prim.Native.Nat.{ℕ}
 use native.Mathlib.Omega.{arith}

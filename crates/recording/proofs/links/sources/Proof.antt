@@ -1,4 +1,4 @@
--- `links::sources` meets its contract: those gathered and those left are all. Assumes nothing.
+-- `links::sources` meets its contract: those gathered and those left are all.
 use mathlib.Core.Path.{_≡_, sym, ap, _∙_}
 use mathlib.Core.Logic.{inl, inr}
 use Prim.Native.Nat.{ℕ, _+_, _-_, _*_, _≤_, _<_}

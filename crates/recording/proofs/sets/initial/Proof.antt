@@ -1,4 +1,4 @@
--- `sets::initial` meets its contract, call by call. Assumes nothing.
+-- `sets::initial` meets its contract, call by call.
 use Rattle.recording.proofs.SortLaws.{initial-range}
 use borrow.Author.Needs.{needs}
 use Rattle.recording.proofs.sets.initial.Statement.{statement}

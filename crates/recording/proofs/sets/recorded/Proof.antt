@@ -1,4 +1,4 @@
--- `sets::recorded` meets its contract, call by call. Assumes nothing.
+-- `sets::recorded` meets its contract, call by call.
 use Rattle.recording.proofs.SortLaws.{recorded-range}
 use borrow.Author.Needs.{needs}
 use Rattle.recording.proofs.sets.recorded.Statement.{statement}

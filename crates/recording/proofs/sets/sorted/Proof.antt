@@ -1,4 +1,4 @@
--- `sets::sorted` meets its contract, member by member. Assumes nothing.
+-- `sets::sorted` meets its contract, member by member.
 use mathlib.Core.Logic.{inl, inr}
 use Prim.Native.Nat.{_-_, _<_}
 use native.Mathlib.Omega.{arith}

@@ -1,4 +1,4 @@
--- `thread::along` meets its contract: what is in the line and what is left of the chain are all. Assumes nothing.
+-- `thread::along` meets its contract: what is in the line and what is left of the chain are all.
 use Prim.Native.Nat.{_-_}
 use native.Mathlib.Omega.{arith}
 use Rattle.recording.specs.Layout.{Sized}

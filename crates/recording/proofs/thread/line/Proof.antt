@@ -1,4 +1,4 @@
--- `thread::line` meets its contract, thread by thread. Assumes nothing.
+-- `thread::line` meets its contract, thread by thread.
 use native.Mathlib.Omega.{arith}
 use Rattle.recording.proofs.ThreadLaws.{line-none}
 use borrow.Author.Needs.{needs}

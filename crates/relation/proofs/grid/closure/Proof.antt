@@ -1,4 +1,4 @@
--- `grid::closure` meets its contract: one round for each event, row by row. Assumes nothing.
+-- `grid::closure` meets its contract: one round for each event, row by row.
 use mathlib.Core.Path.{_≡_, refl, ap, _∙_}
 use mathlib.Core.Logic.{inl, inr}
 use Prim.Native.Nat.{ℕ, _-_, _≤_}

@@ -1,4 +1,4 @@
--- `grid::diagonal` meets its contract, event by event. Assumes nothing.
+-- `grid::diagonal` meets its contract, event by event.
 use mathlib.Core.Path.{_≡_, sym, ap, _∙_}
 use mathlib.Core.Logic.{inl, inr}
 use Prim.Native.Nat.{ℕ, _-_, _≤_}

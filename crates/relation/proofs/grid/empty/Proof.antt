@@ -1,4 +1,4 @@
--- `grid::empty` meets its contract. Assumes nothing.
+-- `grid::empty` meets its contract.
 use Rattle.relation.proofs.GridLaws.{edge-empty}
 use Rattle.relation.proofs.grid.empty.Statement.{statement}
 use Rattle.relation.proofs.grid.empty.Tie as tie

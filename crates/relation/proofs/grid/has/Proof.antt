@@ -1,4 +1,4 @@
--- `grid::has` meets its contract. Assumes nothing.
+-- `grid::has` meets its contract.
 use Rattle.relation.specs.Bits.{edge}
 use borrow.Author.Needs.{needs}
 use Rattle.relation.proofs.grid.has.Statement.{statement}

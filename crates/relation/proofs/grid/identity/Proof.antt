@@ -1,4 +1,4 @@
--- `grid::identity` meets its contract, row by row. Assumes nothing.
+-- `grid::identity` meets its contract, row by row.
 use mathlib.Core.Path.{_≡_, sym, ap, _∙_}
 use mathlib.Core.Logic.{inl, inr}
 use Prim.Native.Nat.{ℕ, _-_, _≤_}

@@ -1,4 +1,4 @@
--- `grid::image` meets its contract, member by member. Assumes nothing.
+-- `grid::image` meets its contract, member by member.
 use Prim.Native.Nat.{_-_}
 use native.Mathlib.Omega.{arith}
 use Rattle.relation.specs.Bits.{bit, edge}

@@ -1,4 +1,4 @@
--- `grid::inverse` meets its contract, pair by pair. Assumes nothing.
+-- `grid::inverse` meets its contract, pair by pair.
 use mathlib.Core.Path.{_≡_, refl, sym, ap, _∙_}
 use Prim.Native.Nat.{ℕ, _-_, _*_, _≤_}
 use native.Mathlib.Omega.{arith}

@@ -1,4 +1,4 @@
--- `grid::optional` meets its contract: its definition, call by call. Assumes nothing.
+-- `grid::optional` meets its contract: its definition, call by call.
 use Rattle.relation.specs.Rel.{optional}
 use borrow.Author.Needs.{needs}
 use Rattle.relation.proofs.grid.optional.Statement.{statement}

@@ -1,4 +1,4 @@
--- `grid::or` meets its contract, row by row. Assumes nothing.
+-- `grid::or` meets its contract, row by row.
 use mathlib.Core.Path.{_≡_}
 use Prim.Native.Nat.{ℕ, _-_, _≤_}
 use lib.ListN.{length}

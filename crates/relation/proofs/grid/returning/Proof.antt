@@ -1,4 +1,4 @@
--- `grid::returning` meets its contract, event by event. Assumes nothing.
+-- `grid::returning` meets its contract, event by event.
 use mathlib.Core.Path.{_≡_, sym, _∙_}
 use mathlib.Core.Logic.{inl, inr}
 use Prim.Native.Nat.{_-_, _≤_}

@@ -1,4 +1,4 @@
--- `grid::row_of` meets its contract: it is the definition. Assumes nothing.
+-- `grid::row_of` meets its contract: it is the definition.
 use mathlib.Core.Path.{refl}
 use Rattle.relation.specs.Bits.{edge}
 use borrow.Author.Needs.{needs}

@@ -1,4 +1,4 @@
--- `grid::star` meets its contract: its definition, call by call. Assumes nothing.
+-- `grid::star` meets its contract: its definition, call by call.
 use Rattle.relation.specs.Rel.{star}
 use borrow.Author.Needs.{needs}
 use Rattle.relation.proofs.grid.star.Statement.{statement}

@@ -1,4 +1,4 @@
--- `grid::with` meets its contract: one row gains one event. Assumes nothing.
+-- `grid::with` meets its contract: one row gains one event.
 use Rattle.relation.proofs.GridLaws.{edge-with}
 use borrow.Author.Needs.{needs}
 use Rattle.relation.proofs.grid.with.Statement.{statement}

@@ -1,5 +1,5 @@
 -- `order::order` meets its contract: what is out, followed by the order of what is left, is the order of all.
--- In each turn the members of what is left are gone through up to the first ready one. Assumes nothing.
+-- In each turn the members of what is left are gone through up to the first ready one.
 use mathlib.Core.Path.{_≡_, _∙_}
 use mathlib.Core.Logic.{inl, inr}
 use Prim.Native.Nat.{ℕ, _-_, _≤_}

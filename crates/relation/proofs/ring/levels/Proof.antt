@@ -1,4 +1,4 @@
--- `ring::levels` meets its contract: each row is what one more step reaches. Assumes nothing.
+-- `ring::levels` meets its contract: each row is what one more step reaches.
 use mathlib.Core.Path.{_≡_}
 use Prim.Native.Nat.{ℕ, _-_, _≤_}
 use Rattle.relation.specs.Rel.{none}

@@ -1,4 +1,4 @@
--- `ring::ring` meets its contract: no way is closed, or the shortest one comes round. Assumes nothing.
+-- `ring::ring` meets its contract: no way is closed, or the shortest one comes round.
 use mathlib.Core.Path.{refl}
 use native.Mathlib.Omega.{arith}
 use Rattle.relation.proofs.Walks.{edge-inside}

@@ -1,4 +1,4 @@
--- `ring::shortest` meets its contract: fewer steps are tried first. Assumes nothing.
+-- `ring::shortest` meets its contract: fewer steps are tried first.
 use mathlib.Core.Path.{_≡_}
 use mathlib.Core.Bool.{false}
 use Prim.Native.Nat.{ℕ, _-_, _≤_, _<_}

@@ -1,4 +1,4 @@
--- `ring::smallest_at` meets its contract. Assumes nothing.
+-- `ring::smallest_at` meets its contract.
 use mathlib.Core.Logic.{inl, inr}
 use Prim.Native.Nat.{ℕ, _-_, _≤_}
 use native.Mathlib.Omega.{arith}

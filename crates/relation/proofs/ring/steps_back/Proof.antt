@@ -1,4 +1,4 @@
--- `ring::steps_back` meets its contract: each event but the last leads to the one after it. Assumes nothing.
+-- `ring::steps_back` meets its contract: each event but the last leads to the one after it.
 use mathlib.Core.List.{List}
 use Prim.Native.Nat.{ℕ, _≤_, _<_, _-_}
 use native.Mathlib.Omega.{arith}

@@ -1,4 +1,4 @@
--- `ring::turned` meets its contract, place by place. Assumes nothing.
+-- `ring::turned` meets its contract, place by place.
 use Prim.Native.Nat.{ℕ, _-_, _≤_}
 use native.Mathlib.Omega.{arith}
 use Rattle.relation.specs.Ring.{SmallestAt}

@@ -1,4 +1,4 @@
--- `ring::turned_to` meets its contract, by the two cases of its definition. Assumes nothing.
+-- `ring::turned_to` meets its contract, by the two cases of its definition.
 use mathlib.Core.Path.{sym}
 use Rattle.relation.proofs.RingLaws.{turned-low, turned-high}
 use borrow.Author.Needs.{needs}

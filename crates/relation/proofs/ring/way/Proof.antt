@@ -1,4 +1,4 @@
--- `ring::way` meets its contract: it ends where e closes it. Assumes nothing.
+-- `ring::way` meets its contract: it ends where e closes it.
 use mathlib.Core.Path.{ap, _∙_}
 use Rattle.relation.specs.Rel.{intersection}
 use Rattle.relation.specs.Bits.{edge}

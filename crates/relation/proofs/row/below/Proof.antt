@@ -1,4 +1,4 @@
--- `row::below` meets its contract: a number with the bits below n, or every bit. Assumes nothing.
+-- `row::below` meets its contract: a number with the bits below n, or every bit.
 use mathlib.Core.Path.{ap, sym, _∙_}
 use native.Mathlib.Omega.{arith}
 use Rattle.relation.specs.Ring.{under}

@@ -1,4 +1,4 @@
--- `row::bytes` meets its contract: the bytes of a number hold its bits. Assumes nothing.
+-- `row::bytes` meets its contract: the bytes of a number hold its bits.
 use Rattle.relation.proofs.WordLaws.{bytes-bit}
 use mir.Syntax.{w64}
 use mir.Val.{Fits}

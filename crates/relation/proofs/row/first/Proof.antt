@@ -1,4 +1,4 @@
--- `row::first` meets its contract: the zeros below the lowest set bit. Assumes nothing.
+-- `row::first` meets its contract: the zeros below the lowest set bit.
 use mathlib.Core.Path.{ap, sym, _∙_}
 use native.Mathlib.Omega.{arith}
 use Rattle.relation.specs.Rel.{least}

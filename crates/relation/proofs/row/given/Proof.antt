@@ -1,4 +1,4 @@
--- `row::given` meets its contract. Assumes nothing.
+-- `row::given` meets its contract.
 use mathlib.Core.Path.{_∙_}
 use Rattle.relation.proofs.SetLaws.{given-yes, given-no}
 use borrow.Author.Needs.{needs}

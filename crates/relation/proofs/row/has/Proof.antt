@@ -1,4 +1,4 @@
--- `row::has` meets its contract: bit j of the row's number. Assumes nothing.
+-- `row::has` meets its contract: bit j of the row's number.
 use mathlib.Core.Path.{ap, sym, _∙_}
 use Prim.Native.Nat.{ℕ}
 use Rattle.relation.specs.Rel.{Set}

@@ -1,4 +1,4 @@
--- `row::minus` meets its contract, byte by byte. Assumes nothing.
+-- `row::minus` meets its contract, byte by byte.
 use mathlib.Core.Path.{refl, fun-ext}
 use Prim.Native.Nat.{_-_, _≤_}
 use Rattle.relation.specs.Rel.{difference}

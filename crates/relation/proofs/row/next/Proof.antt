@@ -1,4 +1,4 @@
--- `row::next` meets its contract: the zeros below the lowest set bit from i on. Assumes nothing.
+-- `row::next` meets its contract: the zeros below the lowest set bit from i on.
 use Prim.Native.Nat.{_/_, _^_}
 use native.Mathlib.Omega.{arith}
 use Rattle.relation.proofs.WordLaws.{trailing-fits, next-found, next-none, next-end}

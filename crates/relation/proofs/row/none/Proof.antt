@@ -1,4 +1,4 @@
--- `row::none` meets its contract: no bit is on in eight zero bytes. Assumes nothing.
+-- `row::none` meets its contract: no bit is on in eight zero bytes.
 use Rattle.relation.proofs.ByteLaws.{bit-none}
 use Rattle.relation.proofs.row.none.Statement.{statement}
 use Rattle.relation.proofs.row.none.Tie as tie

@@ -1,4 +1,4 @@
--- `row::or` meets its contract, byte by byte. Assumes nothing.
+-- `row::or` meets its contract, byte by byte.
 use mathlib.Core.Path.{refl, fun-ext}
 use mathlib.Core.Bool.{_||_}
 use Prim.Native.Nat.{_-_, _≤_}

@@ -1,4 +1,4 @@
--- `row::with` meets its contract: one bit is set and no other. Assumes nothing.
+-- `row::with` meets its contract: one bit is set and no other.
 use mathlib.Core.Path.{_∙_}
 use Rattle.relation.proofs.WordLaws.{on-with}
 use borrow.Author.Needs.{needs}

@@ -1,4 +1,4 @@
--- `row::without` meets its contract: one bit is cleared and no other. Assumes nothing.
+-- `row::without` meets its contract: one bit is cleared and no other.
 use mathlib.Core.Path.{_∙_}
 use Rattle.relation.proofs.WordLaws.{on-without}
 use borrow.Author.Needs.{needs}

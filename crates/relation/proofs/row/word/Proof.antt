@@ -1,4 +1,4 @@
--- `row::word` meets its contract, by the bits of each byte. Assumes nothing.
+-- `row::word` meets its contract, by the bits of each byte.
 use Prim.Native.Nat.{ℕ, _<_}
 use native.Mathlib.Omega.{arith}
 use lib.ListN.{getD}

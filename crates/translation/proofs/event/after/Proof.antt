@@ -1,4 +1,4 @@
--- `event::after` meets its contract: after an inserted fence, after a strong write, after any other event. Assumes nothing.
+-- `event::after` meets its contract: after an inserted fence, after a strong write, after any other event.
 use native.Mathlib.Omega.{arith}
 use Rattle.translation.proofs.SourceFacts.{sized}
 use Rattle.translation.proofs.EventLaws.{fenced-event, after-fence, after-write, after-other}

@@ -1,4 +1,4 @@
--- `event::fenced` meets its contract: no number before the one returned is such a write. Assumes nothing.
+-- `event::fenced` meets its contract: no number before the one returned is such a write.
 use Prim.Native.Nat.{_-_, _≤_}
 use Rattle.translation.proofs.EventLaws.{Passed, passed-none, passed-more, passed-here, passed-all}
 use borrow.Author.Needs.{needs}

@@ -1,4 +1,4 @@
--- `event::inserted` meets its contract. Assumes nothing.
+-- `event::inserted` meets its contract.
 use Rattle.translation.proofs.SourceFacts.{sized}
 use Rattle.translation.proofs.EventLaws.{inserted-is}
 use borrow.Author.Needs.{needs}

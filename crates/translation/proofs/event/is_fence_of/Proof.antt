@@ -1,4 +1,4 @@
--- `event::is_fence_of` meets its contract. Assumes nothing.
+-- `event::is_fence_of` meets its contract.
 use Rattle.translation.proofs.SourceFacts.{sized}
 use Rattle.translation.proofs.EventLaws.{fence-yes, fence-no}
 use borrow.Author.Needs.{needs}

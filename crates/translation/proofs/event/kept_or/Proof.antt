@@ -1,4 +1,4 @@
--- `event::kept_or` meets its contract. Assumes nothing.
+-- `event::kept_or` meets its contract.
 use native.Mathlib.Omega.{arith}
 use Rattle.translation.proofs.SourceFacts.{sized}
 use Rattle.translation.proofs.EventLaws.{fence-has, event-keeps}

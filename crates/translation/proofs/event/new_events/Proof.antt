@@ -1,4 +1,4 @@
--- `event::new_events` meets its contract. Assumes nothing.
+-- `event::new_events` meets its contract.
 use Rattle.translation.proofs.SourceFacts.{sized}
 use Rattle.translation.proofs.EventLaws.{new-events-are}
 use borrow.Author.Needs.{needs}

@@ -1,4 +1,4 @@
--- `event::new_mode` meets its contract, by the class and the mode. Assumes nothing.
+-- `event::new_mode` meets its contract, by the class and the mode.
 use native.Mathlib.Omega.{arith}
 use Rattle.translation.proofs.SourceFacts.{sized}
 use Rattle.translation.proofs.EventLaws.{fence-has, event-keeps, mode-stays, mode-five, mode-six}

@@ -1,4 +1,4 @@
--- `event::strong_below` meets its contract: the count grows with each strong write passed. Assumes nothing.
+-- `event::strong_below` meets its contract: the count grows with each strong write passed.
 use mathlib.Core.Logic.{inl, inr}
 use Prim.Native.Nat.{_-_, _≤_}
 use native.Mathlib.Omega.{arith}

@@ -1,4 +1,4 @@
--- `link::controlled` meets its contract: after the pair's write, or after the read. Assumes nothing.
+-- `link::controlled` meets its contract: after the pair's write, or after the read.
 use native.Mathlib.Omega.{arith}
 use Rattle.translation.proofs.SourceFacts.{sized, limits}
 use Rattle.translation.proofs.LinkRows.{readable, pair-new, pair-controls, read-controls, old-new}

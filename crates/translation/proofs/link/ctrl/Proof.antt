@@ -1,4 +1,4 @@
--- `link::ctrl` meets its contract. Assumes nothing.
+-- `link::ctrl` meets its contract.
 use Rattle.translation.proofs.LinkRows.{readable, ctrl-is}
 use borrow.Author.Needs.{needs}
 use Rattle.translation.proofs.link.ctrl.Statement.{statement}

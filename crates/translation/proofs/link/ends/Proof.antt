@@ -1,4 +1,4 @@
--- `link::ends` meets its contract, event by event. Assumes nothing.
+-- `link::ends` meets its contract, event by event.
 use Prim.Native.Nat.{_+_, _-_, _≤_}
 use native.Mathlib.Omega.{arith}
 use Rattle.relation.specs.Bits.{edge}

@@ -1,4 +1,4 @@
--- `link::links_up_to` meets its contract, type by type. Assumes nothing.
+-- `link::links_up_to` meets its contract, type by type.
 use Prim.Native.Nat.{_-_, _≤_}
 use native.Mathlib.Omega.{arith}
 use Rattle.translation.specs.Contents.{contents}

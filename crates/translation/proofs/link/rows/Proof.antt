@@ -1,4 +1,4 @@
--- `link::rows` meets its contract, by type. Assumes nothing.
+-- `link::rows` meets its contract, by type.
 use native.Mathlib.Omega.{arith}
 use Rattle.translation.proofs.Bounds.{most-events}
 use Rattle.translation.proofs.LinkRows.{readable, rows-into}

@@ -1,4 +1,4 @@
--- `link::target_row` meets its contract, by cases. Assumes nothing.
+-- `link::target_row` meets its contract, by cases.
 use mathlib.Core.Path.{sym, _∙_}
 use borrow.Author.Tests.{not-true, not-false}
 use Rattle.recording.proofs.FieldLaws.{recorded-bounds}

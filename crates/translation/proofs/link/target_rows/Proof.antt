@@ -1,4 +1,4 @@
--- `link::target_rows` meets its contract, row by row. Assumes nothing.
+-- `link::target_rows` meets its contract, row by row.
 use Prim.Native.Nat.{_-_, _≤_}
 use Rattle.relation.specs.Rel.{none}
 use Rattle.relation.proofs.GridLaws.{Rows, rows-none-of, rows-set, rows-all}

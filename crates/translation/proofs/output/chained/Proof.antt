@@ -1,4 +1,4 @@
--- `output::chained` meets its contract. Assumes nothing.
+-- `output::chained` meets its contract.
 use native.Mathlib.Omega.{arith}
 use Rattle.translation.proofs.OutputLaws.{chained-up, chained-zero}
 use borrow.Author.Needs.{needs}

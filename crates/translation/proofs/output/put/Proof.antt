@@ -1,4 +1,4 @@
--- `output::put` meets its contract, byte by byte. Assumes nothing.
+-- `output::put` meets its contract, byte by byte.
 use Prim.Native.Nat.{_-_, _≤_}
 use native.Mathlib.Omega.{arith}
 use lib.ListN.{length}

@@ -1,4 +1,4 @@
--- `write::event_record` meets its contract, byte by byte. Assumes nothing.
+-- `write::event_record` meets its contract, byte by byte.
 use Rattle.translation.proofs.WriteLaws.{event-is}
 use borrow.Author.Needs.{needs}
 use Rattle.translation.proofs.write.event_record.Statement.{statement}

@@ -1,4 +1,4 @@
--- `write::header` meets its contract, byte by byte. Assumes nothing.
+-- `write::header` meets its contract, byte by byte.
 use native.Mathlib.Omega.{arith}
 use Rattle.translation.proofs.SourceFacts.{sized}
 use Rattle.translation.proofs.Bounds.{most-events, most-links}

@@ -1,4 +1,4 @@
--- `write::write_events` meets its contract, event by event. Assumes nothing.
+-- `write::write_events` meets its contract, event by event.
 use mathlib.Core.Path.{ap, ap₂, _∙_}
 use Prim.Native.Nat.{_+_, _-_, _≤_}
 use native.Mathlib.Omega.{arith}

@@ -1,4 +1,4 @@
--- `write::write_links` meets its contract, event by event. Assumes nothing.
+-- `write::write_links` meets its contract, event by event.
 use Prim.Native.Nat.{_+_, _-_, _≤_}
 use native.Mathlib.Omega.{arith}
 use Rattle.relation.specs.Bits.{edge}

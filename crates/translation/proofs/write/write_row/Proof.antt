@@ -1,4 +1,4 @@
--- `write::write_row` meets its contract, source by source. Assumes nothing.
+-- `write::write_row` meets its contract, source by source.
 use mathlib.Core.Path.{refl}
 use Prim.Native.Nat.{_-_}
 use native.Mathlib.Omega.{arith}

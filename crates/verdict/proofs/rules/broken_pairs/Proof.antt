@@ -1,4 +1,4 @@
--- `rules::broken_pairs` meets its contract: its definition, call by call. Assumes nothing.
+-- `rules::broken_pairs` meets its contract: its definition, call by call.
 use Rattle.models.specs.Term.{eval}
 use Rattle.models.specs.Rules.{broken-pair}
 use Rattle.verdict.proofs.TermLaws.{holds, given, is-meet, is-then}

@@ -1,4 +1,4 @@
--- `rules::first_pair` meets its contract: the smallest event that the relation leads from, and the smallest that it leads to. Assumes nothing.
+-- `rules::first_pair` meets its contract: the smallest event that the relation leads from, and the smallest that it leads to.
 use mathlib.Core.Path.{_≡_, refl}
 use Rattle.relation.specs.Bits.{edge}
 use Rattle.verdict.proofs.PairLaws.{first-of, first-none, first-pair}

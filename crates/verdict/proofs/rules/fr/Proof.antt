@@ -1,4 +1,4 @@
--- `rules::fr` meets its contract: its definition, call by call. Assumes nothing.
+-- `rules::fr` meets its contract: its definition, call by call.
 use Rattle.models.specs.Term.{eval, fr}
 use Rattle.verdict.proofs.TermLaws.{holds, given, is-inverse, is-then}
 use borrow.Author.Needs.{needs}

@@ -1,4 +1,4 @@
--- `rules::unordered` meets its contract. No write before a has an unsettled peer; in a's turn no peer before b is unsettled. Assumes nothing.
+-- `rules::unordered` meets its contract. No write before a has an unsettled peer; in a's turn no peer before b is unsettled.
 use mathlib.Core.Path.{refl, sym, subst, _∙_}
 use Prim.Native.Nat.{_-_}
 use native.Mathlib.Omega.{arith}

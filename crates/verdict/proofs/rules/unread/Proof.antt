@@ -1,4 +1,4 @@
--- `rules::unread` meets its contract: its definition, call by call. Assumes nothing.
+-- `rules::unread` meets its contract: its definition, call by call.
 use Rattle.verdict.proofs.PairLaws.{unread-is}
 use borrow.Author.Needs.{needs}
 use Rattle.verdict.proofs.rules.unread.Statement.{statement}

@@ -1,4 +1,4 @@
--- `shown::acyclicity` meets its contract: a ring of the order, or the events in order. Assumes nothing.
+-- `shown::acyclicity` meets its contract: a ring of the order, or the events in order.
 use mathlib.Core.Path.{_≡_, ap, ap₂, subst, _∙_}
 use Rattle.relation.specs.Rel.{Rel, Set, diagonal, plus, nodes}
 use Rattle.relation.specs.Bits.{bit, edge}

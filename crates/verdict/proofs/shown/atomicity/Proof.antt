@@ -1,4 +1,4 @@
--- `shown::atomicity` meets its contract: the first broken pair, or none is. Assumes nothing.
+-- `shown::atomicity` meets its contract: the first broken pair, or none is.
 use Rattle.verdict.proofs.ShownLaws.{pair-none, pair-bounds, pair-same, hold-4, tried-none, tried-4}
 use borrow.Author.Needs.{needs}
 use Rattle.verdict.proofs.shown.atomicity.Statement.{statement}

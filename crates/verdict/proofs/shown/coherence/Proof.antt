@@ -1,4 +1,4 @@
--- `shown::coherence` meets its contract: a ring where an event is forbidden, else none is. Assumes nothing.
+-- `shown::coherence` meets its contract: a ring where an event is forbidden, else none is.
 use Rattle.verdict.proofs.ShownLaws.{event-found, event-none, ring-same, hold-3, tried-none, tried-3}
 use borrow.Author.Needs.{needs}
 use Rattle.verdict.proofs.shown.coherence.Statement.{statement}

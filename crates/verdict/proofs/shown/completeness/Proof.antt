@@ -1,4 +1,4 @@
--- `shown::completeness` meets its contract: what the searches for rules 1 and 2 find or do not find. Assumes nothing.
+-- `shown::completeness` meets its contract: what the searches for rules 1 and 2 find or do not find.
 use mathlib.Core.Path.{_≡_, refl, ap, _∙_}
 use mathlib.Core.Bool.{false}
 use Rattle.relation.specs.Rel.{some, least, nodes}

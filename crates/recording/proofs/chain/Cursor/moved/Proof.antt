@@ -1,4 +1,4 @@
--- `chain::Cursor::moved` meets its contract. Assumes nothing.
+-- `chain::Cursor::moved` meets its contract.
 use mathlib.Core.Path.{refl}
 use Prim.Native.Nat.{_+_, _-_, _*_}
 use native.Mathlib.Omega.{arith}
