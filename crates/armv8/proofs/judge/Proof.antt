@@ -80,75 +80,15 @@ tried-4 c =
     let B = base (from-atomicity c) in
     c .atomicity .ensures ARMv8 B (ring B) (ring B) (tried-3 (else2 .before .before) .holds (else2 .if2 .left)) refl (fre-is (after-minus2 .before)) (after-minus2 .minus2 .ensures)
 
-completeness-requires : tie.Need-completeness-requires
-completeness-requires c κs = search needs
-
 returns : tie.Need-returns
 returns c =
     c .before .before .completeness .ensures ARMv8 _ _ .broken (c .if1 .taken)
 
-array-copy-out-po : tie.Need-array-copy-out-po
-array-copy-out-po c = search needs
-
-array-copy-out-rf : tie.Need-array-copy-out-rf
-array-copy-out-rf c = search needs
-
-array-copy-out-co : tie.Need-array-copy-out-co
-array-copy-out-co c = search needs
-
-array-copy-out-and : tie.Need-array-copy-out-and
-array-copy-out-and c = search needs
-
-and-requires : tie.Need-and-requires
-and-requires c κs = search needs
-
-fr-requires : tie.Need-fr-requires
-fr-requires c κs = search needs
-
-or-requires : tie.Need-or-requires
-or-requires c κs = search needs
-
-or-requires-2 : tie.Need-or-requires-2
-or-requires-2 c κs = search needs
-
-or-requires-3 : tie.Need-or-requires-3
-or-requires-3 c κs = search needs
-
-closure-requires : tie.Need-closure-requires
-closure-requires c κs = search needs
-
-diagonal-requires : tie.Need-diagonal-requires
-diagonal-requires c κs = search needs
-
-coherence-requires : tie.Need-coherence-requires
-coherence-requires c κs = search needs
-
 returns-2 : tie.Need-returns-2
 returns-2 c = tried-3 (c .before .before) .broken (c .if2 .taken)
 
-minus-requires : tie.Need-minus-requires
-minus-requires c κs = search needs
-
-minus-requires-2 : tie.Need-minus-requires-2
-minus-requires-2 c κs = search needs
-
-array-copy-out-atomicity : tie.Need-array-copy-out-atomicity
-array-copy-out-atomicity c = search needs
-
-atomicity-requires : tie.Need-atomicity-requires
-atomicity-requires c κs = search needs
-
 returns-3 : tie.Need-returns-3
 returns-3 c = tried-4 (c .before .before) .broken (c .if3 .taken)
-
-ob-requires : tie.Need-ob-requires
-ob-requires c κs = search needs
-
-array-copy-out-acyclicity : tie.Need-array-copy-out-acyclicity
-array-copy-out-acyclicity c = search needs
-
-acyclicity-requires : tie.Need-acyclicity-requires
-acyclicity-requires c κs = search needs
 
 returns-4 : tie.Need-returns-4
 unfolding eval baseOf
@@ -164,27 +104,27 @@ pub judge-spec : {M : Type 1} → statement M
 judge-spec =
     tie.close
     (tie.spec
-    completeness-requires
+    (λ c κs. search needs)
     returns
-    array-copy-out-po
-    array-copy-out-rf
-    array-copy-out-co
-    array-copy-out-and
-    and-requires
-    fr-requires
-    or-requires
-    or-requires-2
-    or-requires-3
-    closure-requires
-    diagonal-requires
-    coherence-requires
+    (λ c. search needs)
+    (λ c. search needs)
+    (λ c. search needs)
+    (λ c. search needs)
+    (λ c κs. search needs)
+    (λ c κs. search needs)
+    (λ c κs. search needs)
+    (λ c κs. search needs)
+    (λ c κs. search needs)
+    (λ c κs. search needs)
+    (λ c κs. search needs)
+    (λ c κs. search needs)
     returns-2
-    minus-requires
-    minus-requires-2
-    array-copy-out-atomicity
-    atomicity-requires
+    (λ c κs. search needs)
+    (λ c κs. search needs)
+    (λ c. search needs)
+    (λ c κs. search needs)
     returns-3
-    ob-requires
-    array-copy-out-acyclicity
-    acyclicity-requires
+    (λ c κs. search needs)
+    (λ c. search needs)
+    (λ c κs. search needs)
     returns-4)

@@ -16,53 +16,11 @@ program-order-requires c κs = search (needs, loaded-sized, loaded-threads)
 rows-by-type-requires : tie.Need-rows-by-type-requires
 rows-by-type-requires c κs = search (needs, loaded-readable)
 
-array-copy-out-inverse : tie.Need-array-copy-out-inverse
-array-copy-out-inverse c = search needs
-
-inverse-requires : tie.Need-inverse-requires
-inverse-requires c κs = search needs
-
-array-copy-out-inverse-2 : tie.Need-array-copy-out-inverse-2
-array-copy-out-inverse-2 c = search needs
-
-inverse-requires-2 : tie.Need-inverse-requires-2
-inverse-requires-2 c κs = search needs
-
 coherence-requires : tie.Need-coherence-requires
 coherence-requires c κs = (loaded-sized _ (c .before .before .before .before .before .before .before .before .pre), links-of _ _ (c .before .before .before .before .rows-by-type .ensures) 2 (omega arith) (omega arith) _ (c .inverse2 .ensures), c .before .before .before .before .before .before .same-location .ensures)
 
-array-copy-out-inverse-3 : tie.Need-array-copy-out-inverse-3
-array-copy-out-inverse-3 c = search needs
-
-inverse-requires-3 : tie.Need-inverse-requires-3
-inverse-requires-3 c κs = search needs
-
-array-copy-out-inverse-4 : tie.Need-array-copy-out-inverse-4
-array-copy-out-inverse-4 c = search needs
-
-inverse-requires-4 : tie.Need-inverse-requires-4
-inverse-requires-4 c κs = search needs
-
-array-copy-out-inverse-5 : tie.Need-array-copy-out-inverse-5
-array-copy-out-inverse-5 c = search needs
-
-inverse-requires-5 : tie.Need-inverse-requires-5
-inverse-requires-5 c κs = search needs
-
-array-copy-out-inverse-6 : tie.Need-array-copy-out-inverse-6
-array-copy-out-inverse-6 c = search needs
-
-inverse-requires-6 : tie.Need-inverse-requires-6
-inverse-requires-6 c κs = search needs
-
 control-requires : tie.Need-control-requires
 control-requires c κs = (c .before .before .before .before .before .before .before .before .before .before .before .before .before .before .before .before .before .pre, c .before .before .before .before .before .before .before .before .before .before .before .before .before .before .program-order .ensures, links-of _ _ (c .before .before .before .before .before .before .before .before .before .before .before .before .before .rows-by-type .ensures) 6 (omega arith) (omega arith) _ (c .inverse6 .ensures))
-
-array-copy-out-inverse-7 : tie.Need-array-copy-out-inverse-7
-array-copy-out-inverse-7 c = search needs
-
-inverse-requires-7 : tie.Need-inverse-requires-7
-inverse-requires-7 c κs = search needs
 
 returns : tie.Need-returns
 unfolding base
@@ -87,20 +45,20 @@ relations-spec =
     same-location-requires
     program-order-requires
     rows-by-type-requires
-    array-copy-out-inverse
-    inverse-requires
-    array-copy-out-inverse-2
-    inverse-requires-2
+    (λ c. search needs)
+    (λ c κs. search needs)
+    (λ c. search needs)
+    (λ c κs. search needs)
     coherence-requires
-    array-copy-out-inverse-3
-    inverse-requires-3
-    array-copy-out-inverse-4
-    inverse-requires-4
-    array-copy-out-inverse-5
-    inverse-requires-5
-    array-copy-out-inverse-6
-    inverse-requires-6
+    (λ c. search needs)
+    (λ c κs. search needs)
+    (λ c. search needs)
+    (λ c κs. search needs)
+    (λ c. search needs)
+    (λ c κs. search needs)
+    (λ c. search needs)
+    (λ c κs. search needs)
     control-requires
-    array-copy-out-inverse-7
-    inverse-requires-7
+    (λ c. search needs)
+    (λ c κs. search needs)
     returns)

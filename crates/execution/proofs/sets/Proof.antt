@@ -18,102 +18,30 @@ recorded-requires c κs = search (needs, loaded-sized)
 sorted-requires : tie.Need-sorted-requires
 sorted-requires c κs = search (needs, loaded-sized, all-recorded)
 
-array-copy-out-sorted : tie.Need-array-copy-out-sorted
-array-copy-out-sorted c = search needs
-
 sorted-requires-2 : tie.Need-sorted-requires-2
 sorted-requires-2 c κs =
     let classes = c .before in
     (loaded-sized _ (classes .before .before .before .before .pre), search needs, class-recorded _ _ (classes .before .recorded .ensures) _ (classes .sorted .ensures) 1 (search needs))
-
-array-copy-out-sorted-2 : tie.Need-array-copy-out-sorted-2
-array-copy-out-sorted-2 c = search needs
 
 sorted-requires-3 : tie.Need-sorted-requires-3
 sorted-requires-3 c κs =
     let classes = c .before .before .before in
     (loaded-sized _ (classes .before .before .before .before .pre), search needs, class-recorded _ _ (classes .before .recorded .ensures) _ (classes .sorted .ensures) 1 (search needs))
 
-array-copy-out-sorted-3 : tie.Need-array-copy-out-sorted-3
-array-copy-out-sorted-3 c = search needs
-
 sorted-requires-4 : tie.Need-sorted-requires-4
 sorted-requires-4 c κs =
     let classes = c .before .before .before .before .before in
     (loaded-sized _ (classes .before .before .before .before .pre), search needs, class-recorded _ _ (classes .before .recorded .ensures) _ (classes .sorted .ensures) 2 (search needs))
-
-array-copy-out-sorted-4 : tie.Need-array-copy-out-sorted-4
-array-copy-out-sorted-4 c = search needs
 
 sorted-requires-5 : tie.Need-sorted-requires-5
 sorted-requires-5 c κs =
     let classes = c .before .before .before .before .before .before .before in
     (loaded-sized _ (classes .before .before .before .before .pre), search needs, class-recorded _ _ (classes .before .recorded .ensures) _ (classes .sorted .ensures) 2 (search needs))
 
-array-copy-out-sorted-5 : tie.Need-array-copy-out-sorted-5
-array-copy-out-sorted-5 c = search needs
-
 sorted-requires-6 : tie.Need-sorted-requires-6
 sorted-requires-6 c κs =
     let classes = c .before .before .before .before .before .before .before .before .before in
     (loaded-sized _ (classes .before .before .before .before .pre), search needs, class-recorded _ _ (classes .before .recorded .ensures) _ (classes .sorted .ensures) 3 (search needs))
-
-array-copy-out-or : tie.Need-array-copy-out-or
-array-copy-out-or c = search needs
-
-array-copy-out-or-2 : tie.Need-array-copy-out-or-2
-array-copy-out-or-2 c = search needs
-
-or-requires : tie.Need-or-requires
-or-requires c κs = search needs
-
-or-requires-2 : tie.Need-or-requires-2
-or-requires-2 c κs = search needs
-
-array-copy-out-t27 : tie.Need-array-copy-out-t27
-array-copy-out-t27 c = search needs
-
-array-copy-out-or-3 : tie.Need-array-copy-out-or-3
-array-copy-out-or-3 c = search needs
-
-or-requires-3 : tie.Need-or-requires-3
-or-requires-3 c κs = search needs
-
-array-copy-out-t36 : tie.Need-array-copy-out-t36
-array-copy-out-t36 c = search needs
-
-array-copy-out-t39 : tie.Need-array-copy-out-t39
-array-copy-out-t39 c = search needs
-
-array-copy-out-t42 : tie.Need-array-copy-out-t42
-array-copy-out-t42 c = search needs
-
-array-copy-out-t45 : tie.Need-array-copy-out-t45
-array-copy-out-t45 c = search needs
-
-array-copy-out-t48 : tie.Need-array-copy-out-t48
-array-copy-out-t48 c = search needs
-
-array-copy-out-or-4 : tie.Need-array-copy-out-or-4
-array-copy-out-or-4 c = search needs
-
-or-requires-4 : tie.Need-or-requires-4
-or-requires-4 c κs = search needs
-
-array-copy-out-or-5 : tie.Need-array-copy-out-or-5
-array-copy-out-or-5 c = search needs
-
-or-requires-5 : tie.Need-or-requires-5
-or-requires-5 c κs = search needs
-
-array-copy-out-t59 : tie.Need-array-copy-out-t59
-array-copy-out-t59 c = search needs
-
-array-copy-out-t62 : tie.Need-array-copy-out-t62
-array-copy-out-t62 c = search needs
-
-array-copy-out-t65 : tie.Need-array-copy-out-t65
-array-copy-out-t65 c = search needs
 
 returns : tie.Need-returns
 unfolding event decode union acquireFence releaseFence
@@ -164,33 +92,33 @@ sets-spec =
     initial-requires
     recorded-requires
     sorted-requires
-    array-copy-out-sorted
+    (λ c. search needs)
     sorted-requires-2
-    array-copy-out-sorted-2
+    (λ c. search needs)
     sorted-requires-3
-    array-copy-out-sorted-3
+    (λ c. search needs)
     sorted-requires-4
-    array-copy-out-sorted-4
+    (λ c. search needs)
     sorted-requires-5
-    array-copy-out-sorted-5
+    (λ c. search needs)
     sorted-requires-6
-    array-copy-out-or
-    array-copy-out-or-2
-    or-requires
-    or-requires-2
-    array-copy-out-t27
-    array-copy-out-or-3
-    or-requires-3
-    array-copy-out-t36
-    array-copy-out-t39
-    array-copy-out-t42
-    array-copy-out-t45
-    array-copy-out-t48
-    array-copy-out-or-4
-    or-requires-4
-    array-copy-out-or-5
-    or-requires-5
-    array-copy-out-t59
-    array-copy-out-t62
-    array-copy-out-t65
+    (λ c. search needs)
+    (λ c. search needs)
+    (λ c κs. search needs)
+    (λ c κs. search needs)
+    (λ c. search needs)
+    (λ c. search needs)
+    (λ c κs. search needs)
+    (λ c. search needs)
+    (λ c. search needs)
+    (λ c. search needs)
+    (λ c. search needs)
+    (λ c. search needs)
+    (λ c. search needs)
+    (λ c κs. search needs)
+    (λ c. search needs)
+    (λ c κs. search needs)
+    (λ c. search needs)
+    (λ c. search needs)
+    (λ c. search needs)
     returns)

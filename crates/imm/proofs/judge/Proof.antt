@@ -110,102 +110,15 @@ ar-is c =
     c .ar .ensures (after-rfi .before .before .and .ensures) (after-rfi .before .minus .ensures) (after-rfi .and2 .ensures)
     (after-atomicity .before .before .before .minus3 .ensures) (hb-is (after-eco .before .before)) (eco-is after-eco)
 
-completeness-requires : tie.Need-completeness-requires
-completeness-requires c κs = search needs
-
 returns : tie.Need-returns
 returns c =
     c .before .before .completeness .ensures IMM _ _ .broken (c .if1 .taken)
 
-array-copy-out-po : tie.Need-array-copy-out-po
-array-copy-out-po c = search needs
-
-array-copy-out-rf : tie.Need-array-copy-out-rf
-array-copy-out-rf c = search needs
-
-array-copy-out-co : tie.Need-array-copy-out-co
-array-copy-out-co c = search needs
-
-array-copy-out-and : tie.Need-array-copy-out-and
-array-copy-out-and c = search needs
-
-and-requires : tie.Need-and-requires
-and-requires c κs = search needs
-
-minus-requires : tie.Need-minus-requires
-minus-requires c κs = search needs
-
-and-requires-2 : tie.Need-and-requires-2
-and-requires-2 c κs = search needs
-
-fr-requires : tie.Need-fr-requires
-fr-requires c κs = search needs
-
-steps-requires : tie.Need-steps-requires
-steps-requires c κs = search needs
-
-closure-requires : tie.Need-closure-requires
-closure-requires c κs = search needs
-
-array-copy-out-eco : tie.Need-array-copy-out-eco
-array-copy-out-eco c = search needs
-
-eco-requires : tie.Need-eco-requires
-eco-requires c κs = search needs
-
-array-copy-out-optional : tie.Need-array-copy-out-optional
-array-copy-out-optional c = search needs
-
-optional-requires : tie.Need-optional-requires
-optional-requires c κs = search needs
-
-inverse-requires : tie.Need-inverse-requires
-inverse-requires c κs = search needs
-
-returning-requires : tie.Need-returning-requires
-returning-requires c κs = search needs
-
-all-requires : tie.Need-all-requires
-all-requires c κs = search needs
-
-identity-requires : tie.Need-identity-requires
-identity-requires c κs = search needs
-
-minus-requires-2 : tie.Need-minus-requires-2
-minus-requires-2 c κs = search needs
-
-or-requires : tie.Need-or-requires
-or-requires c κs = search needs
-
-coherence-requires : tie.Need-coherence-requires
-coherence-requires c κs = search needs
-
 returns-2 : tie.Need-returns-2
 returns-2 c = tried-3 (c .before .before) .broken (c .if2 .taken)
 
-minus-requires-3 : tie.Need-minus-requires-3
-minus-requires-3 c κs = search needs
-
-array-copy-out-atomicity : tie.Need-array-copy-out-atomicity
-array-copy-out-atomicity c = search needs
-
-minus-requires-4 : tie.Need-minus-requires-4
-minus-requires-4 c κs = search needs
-
-atomicity-requires : tie.Need-atomicity-requires
-atomicity-requires c κs = search needs
-
 returns-3 : tie.Need-returns-3
 returns-3 c = tried-4 (c .before .before) .broken (c .if3 .taken)
-
-ar-requires : tie.Need-ar-requires
-ar-requires c κs = search needs
-
-array-copy-out-acyclicity : tie.Need-array-copy-out-acyclicity
-array-copy-out-acyclicity c = search needs
-
-acyclicity-requires : tie.Need-acyclicity-requires
-acyclicity-requires c κs = search needs
 
 returns-4 : tie.Need-returns-4
 unfolding baseOf
@@ -220,36 +133,36 @@ pub judge-spec : {M : Type 1} → statement M
 judge-spec =
     tie.close
     (tie.spec
-    completeness-requires
+    (λ c κs. search needs)
     returns
-    array-copy-out-po
-    array-copy-out-rf
-    array-copy-out-co
-    array-copy-out-and
-    and-requires
-    minus-requires
-    and-requires-2
-    fr-requires
-    steps-requires
-    closure-requires
-    array-copy-out-eco
-    eco-requires
-    array-copy-out-optional
-    optional-requires
-    inverse-requires
-    returning-requires
-    all-requires
-    identity-requires
-    minus-requires-2
-    or-requires
-    coherence-requires
+    (λ c. search needs)
+    (λ c. search needs)
+    (λ c. search needs)
+    (λ c. search needs)
+    (λ c κs. search needs)
+    (λ c κs. search needs)
+    (λ c κs. search needs)
+    (λ c κs. search needs)
+    (λ c κs. search needs)
+    (λ c κs. search needs)
+    (λ c. search needs)
+    (λ c κs. search needs)
+    (λ c. search needs)
+    (λ c κs. search needs)
+    (λ c κs. search needs)
+    (λ c κs. search needs)
+    (λ c κs. search needs)
+    (λ c κs. search needs)
+    (λ c κs. search needs)
+    (λ c κs. search needs)
+    (λ c κs. search needs)
     returns-2
-    minus-requires-3
-    array-copy-out-atomicity
-    minus-requires-4
-    atomicity-requires
+    (λ c κs. search needs)
+    (λ c. search needs)
+    (λ c κs. search needs)
+    (λ c κs. search needs)
     returns-3
-    ar-requires
-    array-copy-out-acyclicity
-    acyclicity-requires
+    (λ c κs. search needs)
+    (λ c. search needs)
+    (λ c κs. search needs)
     returns-4)

@@ -5,20 +5,8 @@ use borrow.Author.Needs.{needs}
 use Rattle.judgement.proofs.chip.Statement.{statement}
 use Rattle.judgement.proofs.chip.Tie as tie
 
-slice-aggregate-written : tie.Need-slice-aggregate-written
-slice-aggregate-written c = search needs
-
 written-requires : tie.Need-written-requires
 written-requires c κs = c .before .before .pre
-
-enum-known-k : tie.Need-enum-known-k
-enum-known-k c = search needs
-
-refused-requires : tie.Need-refused-requires
-refused-requires c κs = search needs
-
-enum-known-n : tie.Need-enum-known-n
-enum-known-n c = search needs
 
 -- The bytes that were written.
 whole-of : (c : tie.After-known-told2)
@@ -48,11 +36,11 @@ pub chip-spec : {M : Type 1} → statement M
 chip-spec =
     tie.close
     (tie.spec
-    slice-aggregate-written
+    (λ c. search needs)
     written-requires
-    enum-known-k
-    refused-requires
-    enum-known-n
+    (λ c. search needs)
+    (λ c κs. search needs)
+    (λ c. search needs)
     array-share-prefix-bytes
     slice-aggregate-loaded
     loaded-requires

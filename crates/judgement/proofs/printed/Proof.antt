@@ -5,26 +5,8 @@ use borrow.Author.Needs.{needs}
 use Rattle.judgement.proofs.printed.Statement.{statement}
 use Rattle.judgement.proofs.printed.Tie as tie
 
-load-requires : tie.Need-load-requires
-load-requires c κs = search needs
-
-enum-known-answer : tie.Need-enum-known-answer
-enum-known-answer c = search needs
-
 enum-told : tie.Need-enum-told
 enum-told c = search needs
-
-number-requires : tie.Need-number-requires
-number-requires c κs = search needs
-
-refused-requires : tie.Need-refused-requires
-refused-requires c κs = search needs
-
-line-requires : tie.Need-line-requires
-line-requires c κs = search needs
-
-single-requires : tie.Need-single-requires
-single-requires c κs = search needs
 
 returns : tie.Need-returns
 returns c =
@@ -62,9 +44,6 @@ loaded-requires c κs =
 line-requires-4 : tie.Need-line-requires-4
 line-requires-4 c κs = c .loaded .ensures .shown .bound
 
-single-requires-2 : tie.Need-single-requires-2
-single-requires-2 c κs = search needs
-
 returns-3 : tie.Need-returns-3
 returns-3 c =
     let v = c .before .before in
@@ -79,13 +58,13 @@ pub printed-spec : {M : Type 1} → statement M
 printed-spec =
     tie.close
     (tie.spec
-    load-requires
-    enum-known-answer
+    (λ c κs. search needs)
+    (λ c. search needs)
     enum-told
-    number-requires
-    refused-requires
-    line-requires
-    single-requires
+    (λ c κs. search needs)
+    (λ c κs. search needs)
+    (λ c κs. search needs)
+    (λ c κs. search needs)
     returns
     both-requires
     line-requires-2
@@ -93,5 +72,5 @@ printed-spec =
     returns-2
     loaded-requires
     line-requires-4
-    single-requires-2
+    (λ c κs. search needs)
     returns-3)

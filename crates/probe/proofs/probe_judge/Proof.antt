@@ -8,15 +8,6 @@ use borrow.Author.Needs.{needs}
 use Rattle.probe.proofs.probe_judge.Statement.{statement}
 use Rattle.probe.proofs.probe_judge.Tie as tie
 
-printed-requires : tie.Need-printed-requires
-printed-requires c κs = search needs
-
-add-if1 : tie.Need-add-if1
-add-if1 c = search needs
-
-coded-requires : tie.Need-coded-requires
-coded-requires c κs = search needs
-
 returns : tie.Need-returns
 returns c = (let p = c .before .before .before .before .before .before .printed in let long : length (p .result .first .at) ≡ 320 = search needs in let long′ : length (p .result .second .at) ≡ 320 = search needs in printed-short _ _ (p .result .first) (p .result .second) long long′ (p .ensures .1 .0) (p .ensures .1 .1) (p .ensures .0) (c .before .if1 .taken) _ (c .coded .ensures))
 
@@ -38,15 +29,6 @@ slice-aggregate-put-2 c = (let p = c .before .before .before .before .before .be
 put-requires-2 : tie.Need-put-requires-2
 put-requires-2 c κs = (let p = c .before .before .before .before .before .before .before .before .before .before .before .before .printed in let long : length (p .result .first .at) ≡ 320 = search needs in let long′ : length (p .result .second .at) ≡ 320 = search needs in let e = length-take-le (p .result .second .len) (p .result .second .at) (omega (arith, long′, p .ensures .1 .1)) in omega (arith, e, still-fits _ _ _ (p .result .first .len) (p .result .second .len) (c .before .before .before .before .put .ensures) (length-take-le (p .result .first .len) (p .result .first .at) (omega (arith, long, p .ensures .1 .0))) (c .before .before .before .before .before .before .before .if1 .left)))
 
-add-coded : tie.Need-add-coded
-add-coded c = search needs
-
-coded-requires-2 : tie.Need-coded-requires-2
-coded-requires-2 c κs = search needs
-
-same-length : tie.Need-same-length
-same-length c = search needs
-
 returns-2 : tie.Need-returns-2
 returns-2 c = (let p = c .before .before .before .before .before .before .before .before .before .before .before .before .before .before .before .before .printed in let long : length (p .result .first .at) ≡ 320 = search needs in let long′ : length (p .result .second .at) ≡ 320 = search needs in printed-both _ _ (p .result .first) (p .result .second) long long′ (p .ensures .1 .0) (p .ensures .1 .1) (p .ensures .0) _ _ _ (c .before .before .before .before .before .before .before .before .before .before .before .if1 .left) (c .coded2 .ensures) (c .before .before .before .before .before .before .before .before .put .ensures) (c .before .before .before .put2 .ensures))
 
@@ -54,9 +36,9 @@ pub probe-judge-spec : {M : Type 1} → statement M
 probe-judge-spec =
     tie.close
     (tie.spec
-    printed-requires
-    add-if1
-    coded-requires
+    (λ c κs. search needs)
+    (λ c. search needs)
+    (λ c κs. search needs)
     returns
     array-share-prefix-at
     slice-aggregate-put
@@ -64,7 +46,7 @@ probe-judge-spec =
     array-share-prefix-more
     slice-aggregate-put-2
     put-requires-2
-    add-coded
-    coded-requires-2
-    same-length
+    (λ c. search needs)
+    (λ c κs. search needs)
+    (λ c. search needs)
     returns-2)

@@ -8,12 +8,6 @@ use borrow.Author.Needs.{needs}
 use Rattle.probe.proofs.reported.Statement.{statement}
 use Rattle.probe.proofs.reported.Tie as tie
 
-enum-known-answer : tie.Need-enum-known-answer
-enum-known-answer c = search needs
-
-coded-requires : tie.Need-coded-requires
-coded-requires c κs = search needs
-
 enum-told : tie.Need-enum-told
 enum-told c = search needs
 
@@ -25,9 +19,6 @@ slice-aggregate-stored c = (let v = c .before .before .before .before .before in
 
 stored-requires : tie.Need-stored-requires
 stored-requires c κs = (let v = c .before .before .before .before .before .before in let long : length (v .args .v .at) ≡ 64 = search needs in omega (arith, length-take-le (v .args .v .len) (v .args .v .at) (omega (arith, long, v .pre)), v .pre))
-
-enum-known-answer-2 : tie.Need-enum-known-answer-2
-enum-known-answer-2 c = search needs
 
 array-share-prefix-at-2 : tie.Need-array-share-prefix-at-2
 array-share-prefix-at-2 c = (let v = c .before .before .before .before .before in let long : length (v .args .v .at) ≡ 64 = search needs in omega (arith, long, v .pre))
@@ -41,14 +32,8 @@ stored-requires-2 c κs = (let v = c .before .before .before .before .before .be
 returns : tie.Need-returns
 returns c = reported-refused _ _ _ _ (c .before .before .answer .given .1) (c .coded .ensures)
 
-same-length : tie.Need-same-length
-same-length c = search needs
-
 returns-2 : tie.Need-returns-2
 returns-2 c = reported-allowed _ _ _ _ (c .before .before .before .before .before .enum-told .given .1) (c .before .before .stored .ensures)
-
-same-length-2 : tie.Need-same-length-2
-same-length-2 c = search needs
 
 returns-3 : tie.Need-returns-3
 returns-3 c = reported-broken _ _ _ _ _ (c .before .before .before .before .before .before .answer2 .given .1) (c .before .before .stored2 .ensures)
@@ -57,18 +42,18 @@ pub reported-spec : {M : Type 1} → statement M
 reported-spec =
     tie.close
     (tie.spec
-    enum-known-answer
-    coded-requires
+    (λ c. search needs)
+    (λ c κs. search needs)
     enum-told
     array-share-prefix-at
     slice-aggregate-stored
     stored-requires
-    enum-known-answer-2
+    (λ c. search needs)
     array-share-prefix-at-2
     slice-aggregate-stored-2
     stored-requires-2
     returns
-    same-length
+    (λ c. search needs)
     returns-2
-    same-length-2
+    (λ c. search needs)
     returns-3)

@@ -18,18 +18,6 @@ new-events-requires c κs = source-of _ (c .before .before .before .pre)
 ends-requires : tie.Need-ends-requires
 ends-requires c κs = (record { source = source-of _ (c .before .before .before .before .pre); grid = c .before .ctrl .ensures }, c .new-events .ensures .0)
 
-array-read-m : tie.Need-array-read-m
-array-read-m c = search needs
-
-cast-m : tie.Need-cast-m
-cast-m c = search needs
-
-mul-start : tie.Need-mul-start
-mul-start c = search needs
-
-add-start : tie.Need-add-start
-add-start c = search needs
-
 mul-length : tie.Need-mul-length
 mul-length c = (let few = ends-few _ _ (source-of _ (c .before .before .before .before .before .pre)) _ (c .before .new-events .result) (c .ends .ensures) (omega arith) in omega (arith, few))
 
@@ -49,12 +37,6 @@ header-requires c κs =
     let start = counted .before .before .before .before .before in
     (source-of _ (start .pre), counted .before .new-events .ensures .0, (counted .ends .ensures .upto _ (omega arith)))
 
-slice-aggregate-put : tie.Need-slice-aggregate-put
-slice-aggregate-put c = search needs
-
-put-requires : tie.Need-put-requires
-put-requires c κs = search needs
-
 write-events-requires : tie.Need-write-events-requires
 write-events-requires c κs =
     let enough = c .before .before .before .before .before .before .before in
@@ -65,15 +47,6 @@ write-events-requires c κs =
       counted .before .new-events .ensures .0,
       events-room _ _ _ _ _ (enough .if1 .left) (c .before .before .before .put .ensures ∙ ap (placed _ 0) (c .before .before .before .before .before .before .header .ensures)),
     )
-
-sub-write-links : tie.Need-sub-write-links
-sub-write-links c = search needs
-
-part-write-links-start : tie.Need-part-write-links-start
-part-write-links-start c = search needs
-
-part-write-links-end : tie.Need-part-write-links-end
-part-write-links-end c = search needs
 
 write-links-requires : tie.Need-write-links-requires
 write-links-requires c κs =
@@ -88,9 +61,6 @@ write-links-requires c κs =
       links-part _ _ _ _ [] _ _ (start .pre) (counted .before .new-events .ensures .0) (counted .ends .ensures .upto _ (omega arith)) (enough .if1 .left)
           (put .put .ensures ∙ ap (placed _ 0) (made .header .ensures)) (c .before .before .before .write-events .ensures),
     )
-
-same-length : tie.Need-same-length
-same-length c = search needs
 
 returns-2 : tie.Need-returns-2
 returns-2 c =
@@ -111,20 +81,20 @@ written-spec =
     ctrl-requires
     new-events-requires
     ends-requires
-    array-read-m
-    cast-m
-    mul-start
-    add-start
+    (λ c. search needs)
+    (λ c. search needs)
+    (λ c. search needs)
+    (λ c. search needs)
     mul-length
     add-length
     returns
     header-requires
-    slice-aggregate-put
-    put-requires
+    (λ c. search needs)
+    (λ c κs. search needs)
     write-events-requires
-    sub-write-links
-    part-write-links-start
-    part-write-links-end
+    (λ c. search needs)
+    (λ c. search needs)
+    (λ c. search needs)
     write-links-requires
-    same-length
+    (λ c. search needs)
     returns-2)

@@ -8,66 +8,6 @@ use borrow.Author.Needs.{needs}
 use Rattle.imm.proofs.ar.ar.Statement.{statement}
 use Rattle.imm.proofs.ar.ar.Tie as tie
 
-array-copy-out-po : tie.Need-array-copy-out-po
-array-copy-out-po c = search needs
-
-array-copy-out-writes : tie.Need-array-copy-out-writes
-array-copy-out-writes c = search needs
-
-array-copy-out-bob : tie.Need-array-copy-out-bob
-array-copy-out-bob c = search needs
-
-array-copy-out-bob-2 : tie.Need-array-copy-out-bob-2
-array-copy-out-bob-2 c = search needs
-
-array-copy-out-bob-3 : tie.Need-array-copy-out-bob-3
-array-copy-out-bob-3 c = search needs
-
-bob-requires : tie.Need-bob-requires
-bob-requires c κs = search needs
-
-deps-requires : tie.Need-deps-requires
-deps-requires c κs = search needs
-
-array-copy-out-ppo : tie.Need-array-copy-out-ppo
-array-copy-out-ppo c = search needs
-
-ppo-requires : tie.Need-ppo-requires
-ppo-requires c κs = search needs
-
-detour-requires : tie.Need-detour-requires
-detour-requires c κs = search needs
-
-array-copy-out-psc : tie.Need-array-copy-out-psc
-array-copy-out-psc c = search needs
-
-psc-requires : tie.Need-psc-requires
-psc-requires c κs = search needs
-
-array-copy-out-from : tie.Need-array-copy-out-from
-array-copy-out-from c = search needs
-
-into-requires : tie.Need-into-requires
-into-requires c κs = search needs
-
-from-requires : tie.Need-from-requires
-from-requires c κs = search needs
-
-or-requires : tie.Need-or-requires
-or-requires c κs = search needs
-
-or-requires-2 : tie.Need-or-requires-2
-or-requires-2 c κs = search needs
-
-or-requires-3 : tie.Need-or-requires-3
-or-requires-3 c κs = search needs
-
-or-requires-4 : tie.Need-or-requires-4
-or-requires-4 c κs = search needs
-
-or-requires-5 : tie.Need-or-requires-5
-or-requires-5 c κs = search needs
-
 returns : tie.Need-returns
 unfolding eval baseOf
 returns c =
@@ -96,24 +36,24 @@ pub ar-spec : {M : Type 1} → statement M
 ar-spec =
     tie.close
     (tie.spec
-    array-copy-out-po
-    array-copy-out-writes
-    array-copy-out-bob
-    array-copy-out-bob-2
-    array-copy-out-bob-3
-    bob-requires
-    deps-requires
-    array-copy-out-ppo
-    ppo-requires
-    detour-requires
-    array-copy-out-psc
-    psc-requires
-    array-copy-out-from
-    into-requires
-    from-requires
-    or-requires
-    or-requires-2
-    or-requires-3
-    or-requires-4
-    or-requires-5
+    (λ c. search needs)
+    (λ c. search needs)
+    (λ c. search needs)
+    (λ c. search needs)
+    (λ c. search needs)
+    (λ c κs. search needs)
+    (λ c κs. search needs)
+    (λ c. search needs)
+    (λ c κs. search needs)
+    (λ c κs. search needs)
+    (λ c. search needs)
+    (λ c κs. search needs)
+    (λ c. search needs)
+    (λ c κs. search needs)
+    (λ c κs. search needs)
+    (λ c κs. search needs)
+    (λ c κs. search needs)
+    (λ c κs. search needs)
+    (λ c κs. search needs)
+    (λ c κs. search needs)
     returns)

@@ -6,36 +6,6 @@ use borrow.Author.Needs.{needs}
 use Rattle.imm.proofs.ar.bob.Statement.{statement}
 use Rattle.imm.proofs.ar.bob.Tie as tie
 
-into-requires : tie.Need-into-requires
-into-requires c κs = search needs
-
-from-requires : tie.Need-from-requires
-from-requires c κs = search needs
-
-or-requires : tie.Need-or-requires
-or-requires c κs = search needs
-
-into-requires-2 : tie.Need-into-requires-2
-into-requires-2 c κs = search needs
-
-or-requires-2 : tie.Need-or-requires-2
-or-requires-2 c κs = search needs
-
-from-requires-2 : tie.Need-from-requires-2
-from-requires-2 c κs = search needs
-
-or-requires-3 : tie.Need-or-requires-3
-or-requires-3 c κs = search needs
-
-into-requires-3 : tie.Need-into-requires-3
-into-requires-3 c κs = search needs
-
-from-requires-3 : tie.Need-from-requires-3
-from-requires-3 c κs = search needs
-
-or-requires-4 : tie.Need-or-requires-4
-or-requires-4 c κs = search needs
-
 returns : tie.Need-returns
 unfolding eval
 returns c =
@@ -56,14 +26,14 @@ pub bob-spec : {M : Type 1} → statement M
 bob-spec =
     tie.close
     (tie.spec
-    into-requires
-    from-requires
-    or-requires
-    into-requires-2
-    or-requires-2
-    from-requires-2
-    or-requires-3
-    into-requires-3
-    from-requires-3
-    or-requires-4
+    (λ c κs. search needs)
+    (λ c κs. search needs)
+    (λ c κs. search needs)
+    (λ c κs. search needs)
+    (λ c κs. search needs)
+    (λ c κs. search needs)
+    (λ c κs. search needs)
+    (λ c κs. search needs)
+    (λ c κs. search needs)
+    (λ c κs. search needs)
     returns)

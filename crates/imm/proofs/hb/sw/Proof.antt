@@ -6,30 +6,6 @@ use borrow.Author.Needs.{needs}
 use Rattle.imm.proofs.hb.sw.Statement.{statement}
 use Rattle.imm.proofs.hb.sw.Tie as tie
 
-optional-requires : tie.Need-optional-requires
-optional-requires c κs = search needs
-
-then-requires : tie.Need-then-requires
-then-requires c κs = search needs
-
-or-requires : tie.Need-or-requires
-or-requires c κs = search needs
-
-identity-requires : tie.Need-identity-requires
-identity-requires c κs = search needs
-
-into-requires : tie.Need-into-requires
-into-requires c κs = search needs
-
-or-requires-2 : tie.Need-or-requires-2
-or-requires-2 c κs = search needs
-
-then-requires-2 : tie.Need-then-requires-2
-then-requires-2 c κs = search needs
-
-then-requires-3 : tie.Need-then-requires-3
-then-requires-3 c κs = search needs
-
 returns : tie.Need-returns
 unfolding eval
 returns c =
@@ -47,12 +23,12 @@ pub sw-spec : {M : Type 1} → statement M
 sw-spec =
     tie.close
     (tie.spec
-    optional-requires
-    then-requires
-    or-requires
-    identity-requires
-    into-requires
-    or-requires-2
-    then-requires-2
-    then-requires-3
+    (λ c κs. search needs)
+    (λ c κs. search needs)
+    (λ c κs. search needs)
+    (λ c κs. search needs)
+    (λ c κs. search needs)
+    (λ c κs. search needs)
+    (λ c κs. search needs)
+    (λ c κs. search needs)
     returns)

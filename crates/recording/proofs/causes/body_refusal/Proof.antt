@@ -7,25 +7,16 @@ use borrow.Author.Needs.{needs}
 use Rattle.recording.proofs.causes.body_refusal.Statement.{statement}
 use Rattle.recording.proofs.causes.body_refusal.Tie as tie
 
-events-legal-requires : tie.Need-events-legal-requires
-events-legal-requires c κs = search needs
-
 returns : tie.Need-returns
 returns c =
     let f = c .before .before .before .args .file .now in
     body-5 f (event-cause f _ _ (c .before .events-legal .ensures) (c .if1 .taken))
-
-threads-sound-requires : tie.Need-threads-sound-requires
-threads-sound-requires c κs = search needs
 
 returns-2 : tie.Need-returns-2
 returns-2 c =
     let f = c .before .before .before .before .before .args .file .now in
     let a = event-cause f _ _ (c .before .before .before .events-legal .ensures) (c .before .before .if1 .left) in
     body-6 f a (sym (c .before .threads-sound .ensures) ∙ c .if2 .taken)
-
-chains-sound-requires : tie.Need-chains-sound-requires
-chains-sound-requires c κs = search needs
 
 returns-3 : tie.Need-returns-3
 returns-3 c =
@@ -107,11 +98,11 @@ pub body-refusal-spec : {M : Type 1} → statement M
 body-refusal-spec =
     tie.close
     (tie.spec
-    events-legal-requires
+    (λ c κs. search needs)
     returns
-    threads-sound-requires
+    (λ c κs. search needs)
     returns-2
-    chains-sound-requires
+    (λ c κs. search needs)
     returns-3
     program-order-requires
     links-sound-requires

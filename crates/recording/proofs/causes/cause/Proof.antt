@@ -4,17 +4,8 @@ use borrow.Author.Needs.{needs}
 use Rattle.recording.proofs.causes.cause.Statement.{statement}
 use Rattle.recording.proofs.causes.cause.Tie as tie
 
-load-requires : tie.Need-load-requires
-load-requires c κs = search needs
-
-enum-known-answer : tie.Need-enum-known-answer
-enum-known-answer c = search needs
-
 enum-told : tie.Need-enum-told
 enum-told c = search needs
-
-number-requires : tie.Need-number-requires
-number-requires c κs = search needs
 
 returns : tie.Need-returns
 returns c = cause-refused _ _ _ _ _ (c .before .before .before .load .ensures) (c .before .enum-told .given .1) (c .number .ensures)
@@ -29,10 +20,10 @@ pub cause-spec : {M : Type 1} → statement M
 cause-spec =
     tie.close
     (tie.spec
-    load-requires
-    enum-known-answer
+    (λ c κs. search needs)
+    (λ c. search needs)
     enum-told
-    number-requires
+    (λ c κs. search needs)
     returns
     returns-2
     returns-3)

@@ -13,17 +13,11 @@ returns c = (header-1 _ (c .if1 .taken), λ e. absurd (omega arith))
 header-requires : tie.Need-header-requires
 header-requires c κs = c .if1 .left
 
-known-requires : tie.Need-known-requires
-known-requires c κs = search needs
-
 returns-2 : tie.Need-returns-2
 returns-2 c =
     let f = c .before .before .before .before .before .args .file .now in
     let made = c .before .before in
     (header-2 f (made .before .if1 .left) (known-of f _ _ (made .header .ensures .0) (c .before .known .ensures) ∙ not-true _ (c .if2 .taken)), λ e. absurd (omega arith))
-
-over-limit-requires : tie.Need-over-limit-requires
-over-limit-requires c κs = search needs
 
 returns-3 : tie.Need-returns-3
 returns-3 c =
@@ -33,18 +27,6 @@ returns-3 c =
           (over-of f _ _ (made .header .ensures .0) (c .before .over-limit .ensures) ∙ c .if3 .taken),
       λ e. absurd (omega arith),
     )
-
-mul-if4 : tie.Need-mul-if4
-mul-if4 c = search needs
-
-add-if4 : tie.Need-add-if4
-add-if4 c = search needs
-
-mul-if4-2 : tie.Need-mul-if4-2
-mul-if4-2 c = search needs
-
-add-if4-2 : tie.Need-add-if4-2
-add-if4-2 c = search needs
 
 returns-4 : tie.Need-returns-4
 returns-4 c =
@@ -69,13 +51,13 @@ header-refusal-spec =
     (tie.spec
     returns
     header-requires
-    known-requires
+    (λ c κs. search needs)
     returns-2
-    over-limit-requires
+    (λ c κs. search needs)
     returns-3
-    mul-if4
-    add-if4
-    mul-if4-2
-    add-if4-2
+    (λ c. search needs)
+    (λ c. search needs)
+    (λ c. search needs)
+    (λ c. search needs)
     returns-4
     returns-5)

@@ -29,17 +29,11 @@ loop-holds : tie.Need-loop-holds Inv-loop μ-loop
 unfolding each
 loop-holds c = (search needs, c .events .ensures .0, c .before .before .pre .0, c .before .before .pre .1, refl)
 
-add-b : tie.Need-add-b Inv-loop μ-loop
-add-b c = search needs
-
 sound-into-requires : tie.Need-sound-into-requires Inv-loop μ-loop
 sound-into-requires c κs = let inv = c .before .loop .inv in (inv .2, inv .3, omega arith, omega arith)
 
 returns : tie.Need-returns Inv-loop μ-loop
 returns c = sym (each-fails _ _ _ (omega arith) (sym (c .before .sound-into .ensures) ∙ not-true _ (c .if1 .taken)))
-
-loop-less : tie.Need-loop-less Inv-loop μ-loop
-loop-less c = search needs
 
 loop-again : tie.Need-loop-again Inv-loop μ-loop
 loop-again c =
@@ -59,9 +53,9 @@ links-sound-spec =
     μ-loop
     events-requires
     loop-holds
-    add-b
+    (λ c. search needs)
     sound-into-requires
     returns
-    loop-less
+    (λ c. search needs)
     loop-again
     returns-2)

@@ -4,9 +4,6 @@ use borrow.Author.Needs.{needs}
 use Rattle.recording.proofs.causes.load.Statement.{statement}
 use Rattle.recording.proofs.causes.load.Tie as tie
 
-header-refusal-requires : tie.Need-header-refusal-requires
-header-refusal-requires c κs = search needs
-
 returns : tie.Need-returns
 returns c = load-refused _ _ (refused-header _ _ (c .before .header-refusal .ensures .0) (c .if1 .taken)) (c .if1 .taken)
 
@@ -26,7 +23,7 @@ pub load-spec : {M : Type 1} → statement M
 load-spec =
     tie.close
     (tie.spec
-    header-refusal-requires
+    (λ c κs. search needs)
     returns
     body-refusal-requires
     returns-2

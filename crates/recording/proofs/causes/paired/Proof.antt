@@ -25,17 +25,11 @@ loop-holds : tie.Need-loop-holds Inv-loop μ-loop
 unfolding each
 loop-holds c = (search needs, c .events .ensures .0, c .before .before .pre, refl)
 
-add-e : tie.Need-add-e Inv-loop μ-loop
-add-e c = search needs
-
 paired-at-requires : tie.Need-paired-at-requires Inv-loop μ-loop
 paired-at-requires c κs = c .before .loop .inv .2
 
 returns : tie.Need-returns Inv-loop μ-loop
 returns c = sym (each-fails _ _ _ (omega arith) (sym (c .before .paired-at .ensures) ∙ not-true _ (c .if1 .taken)))
-
-loop-less : tie.Need-loop-less Inv-loop μ-loop
-loop-less c = search needs
 
 loop-again : tie.Need-loop-again Inv-loop μ-loop
 loop-again c =
@@ -55,9 +49,9 @@ paired-spec =
     μ-loop
     events-requires
     loop-holds
-    add-e
+    (λ c. search needs)
     paired-at-requires
     returns
-    loop-less
+    (λ c. search needs)
     loop-again
     returns-2)

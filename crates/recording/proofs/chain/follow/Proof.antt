@@ -51,20 +51,11 @@ returns-3 c =
     let inv = at-loop .loop .inv in
     λ l w. going-twice _ _ _ _ _ _ _ (inv .2 l w) (at-loop .loop .n - 1) (omega arith) (within .before .if1 .left) (within .if2 .left) (inv .1) (c .if3 .taken)
 
-slice-write-marks : tie.Need-slice-write-marks Inv-loop μ-loop
-slice-write-marks c = search needs
-
 moved-requires : tie.Need-moved-requires Inv-loop μ-loop
 moved-requires c κs =
     let within = c .before .before in
     let inv = within .before .before .before .loop .inv in
     (omega (arith, within .before .if1 .left), inv .0 .records _ (omega (arith, within .before .if1 .left)) (within .if2 .left))
-
-sub-n : tie.Need-sub-n Inv-loop μ-loop
-sub-n c = search needs
-
-loop-less : tie.Need-loop-less Inv-loop μ-loop
-loop-less c = search needs
 
 loop-again : tie.Need-loop-again Inv-loop μ-loop
 loop-again c =
@@ -96,10 +87,10 @@ follow-spec =
     slice-read-if3
     same-length-3
     returns-3
-    slice-write-marks
+    (λ c. search needs)
     moved-requires
-    sub-n
-    loop-less
+    (λ c. search needs)
+    (λ c. search needs)
     loop-again
     same-length-4
     returns-4)

@@ -20,9 +20,6 @@ loop-holds c = (search needs, c .before .pre, walked-none _ _ _)
 start-requires : tie.Need-start-requires Inv-loop μ-loop
 start-requires c κs = c .before .loop .inv .1 .starts _ (c .loop-test .taken)
 
-slice-aggregate-follow : tie.Need-slice-aggregate-follow Inv-loop μ-loop
-slice-aggregate-follow c = search needs
-
 follow-requires : tie.Need-follow-requires Inv-loop μ-loop
 follow-requires c κs =
     let inv = c .before .before .before .loop .inv in
@@ -33,12 +30,6 @@ returns : tie.Need-returns Inv-loop μ-loop
 returns c =
     let turn = c .before .before .before .before in
     walked-fails _ _ _ _ _ _ _ _ _ (turn .start .ensures .0) (turn .before .loop-test .taken) (turn .before .before .loop .inv .2) (c .before .before .follow .ensures) (not-true _ (c .if1 .taken))
-
-add-j : tie.Need-add-j Inv-loop μ-loop
-add-j c = search needs
-
-loop-less : tie.Need-loop-less Inv-loop μ-loop
-loop-less c = search needs
 
 loop-again : tie.Need-loop-again Inv-loop μ-loop
 loop-again c =
@@ -62,11 +53,11 @@ once-each-spec =
     μ-loop
     loop-holds
     start-requires
-    slice-aggregate-follow
+    (λ c. search needs)
     follow-requires
     returns
-    add-j
-    loop-less
+    (λ c. search needs)
+    (λ c. search needs)
     loop-again
     all-marked-requires
     returns-2)

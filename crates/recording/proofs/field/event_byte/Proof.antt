@@ -6,21 +6,6 @@ use borrow.Author.Needs.{needs}
 use Rattle.recording.proofs.field.event_byte.Statement.{statement}
 use Rattle.recording.proofs.field.event_byte.Tie as tie
 
-sub-result : tie.Need-sub-result
-sub-result c = search needs
-
-mul-result : tie.Need-mul-result
-mul-result c = search needs
-
-add-result : tie.Need-add-result
-add-result c = search needs
-
-add-result-2 : tie.Need-add-result-2
-add-result-2 c = search needs
-
-shared-slice-read-result : tie.Need-shared-slice-read-result
-shared-slice-read-result c = search needs
-
 cast-result : tie.Need-cast-result
 cast-result c = omega (arith, c .shared-slice-known .given (8 + 8 * (c .before .args .i - 1) + c .before .args .k))
 
@@ -31,10 +16,10 @@ pub event-byte-spec : {M : Type 1} → statement M
 event-byte-spec =
     tie.close
     (tie.spec
-    sub-result
-    mul-result
-    add-result
-    add-result-2
-    shared-slice-read-result
+    (λ c. search needs)
+    (λ c. search needs)
+    (λ c. search needs)
+    (λ c. search needs)
+    (λ c. search needs)
     cast-result
     returns)

@@ -15,29 +15,11 @@ Inv-loop file n h₀ e₀ h e = (e ≤ 64) × Sized file × (n ≡ events file) 
 abbrev μ-loop : tie.MeasureT-loop
 μ-loop file n h₀ e₀ h e = 64 - e
 
-events-requires : tie.Need-events-requires Inv-loop μ-loop
-events-requires c κs = search needs
-
 loop-holds : tie.Need-loop-holds Inv-loop μ-loop
 loop-holds c = (search needs, c .before .before .pre, c .events .ensures .0, locating-none _)
 
 place-of-requires : tie.Need-place-of-requires Inv-loop μ-loop
 place-of-requires c κs = c .before .loop .inv .1
-
-mul-x : tie.Need-mul-x Inv-loop μ-loop
-mul-x c = search needs
-
-array-copy-out-x : tie.Need-array-copy-out-x Inv-loop μ-loop
-array-copy-out-x c = search needs
-
-with-requires : tie.Need-with-requires Inv-loop μ-loop
-with-requires c κs = search needs
-
-mul-h : tie.Need-mul-h Inv-loop μ-loop
-mul-h c = search needs
-
-array-set-from-h : tie.Need-array-set-from-h Inv-loop μ-loop
-array-set-from-h c = search needs
 
 following-requires : tie.Need-following-requires Inv-loop μ-loop
 following-requires c κs = (let turn = c .before .before in let inv = turn .before .loop .inv in (omega (arith, inv .1 .most-events, inv .2), turn .loop-test .taken))
@@ -67,14 +49,14 @@ by-location-spec =
     (tie.spec
     Inv-loop
     μ-loop
-    events-requires
+    (λ c κs. search needs)
     loop-holds
     place-of-requires
-    mul-x
-    array-copy-out-x
-    with-requires
-    mul-h
-    array-set-from-h
+    (λ c. search needs)
+    (λ c. search needs)
+    (λ c κs. search needs)
+    (λ c. search needs)
+    (λ c. search needs)
     following-requires
     loop-less
     loop-again

@@ -5,26 +5,8 @@ use borrow.Author.Needs.{needs}
 use Rattle.recording.proofs.graph.co_steps.Statement.{statement}
 use Rattle.recording.proofs.graph.co_steps.Tie as tie
 
-recorded-requires : tie.Need-recorded-requires
-recorded-requires c κs = search needs
-
 sorted-requires : tie.Need-sorted-requires
 sorted-requires c κs = (c .before .before .pre .0, search needs, all-recorded _ _ (c .recorded .ensures))
-
-initial-requires : tie.Need-initial-requires
-initial-requires c κs = search needs
-
-array-copy-out-product : tie.Need-array-copy-out-product
-array-copy-out-product c = search needs
-
-product-requires : tie.Need-product-requires
-product-requires c κs = search needs
-
-and-requires : tie.Need-and-requires
-and-requires c κs = search needs
-
-or-requires : tie.Need-or-requires
-or-requires c κs = search needs
 
 returns : tie.Need-returns
 returns c =
@@ -38,11 +20,11 @@ pub co-steps-spec : {M : Type 1} → statement M
 co-steps-spec =
     tie.close
     (tie.spec
-    recorded-requires
+    (λ c κs. search needs)
     sorted-requires
-    initial-requires
-    array-copy-out-product
-    product-requires
-    and-requires
-    or-requires
+    (λ c κs. search needs)
+    (λ c. search needs)
+    (λ c κs. search needs)
+    (λ c κs. search needs)
+    (λ c κs. search needs)
     returns)

@@ -17,18 +17,6 @@ Inv-loop file at h₀ k₀ h k = (k ≤ k₀) × Sized file × (threadsSound fil
 abbrev μ-loop : tie.MeasureT-loop
 μ-loop file at h₀ k₀ h k = k
 
-line-requires : tie.Need-line-requires Inv-loop μ-loop
-line-requires c κs = search needs
-
-initial-requires : tie.Need-initial-requires Inv-loop μ-loop
-initial-requires c κs = search needs
-
-recorded-requires : tie.Need-recorded-requires Inv-loop μ-loop
-recorded-requires c κs = search needs
-
-product-requires : tie.Need-product-requires Inv-loop μ-loop
-product-requires c κs = search needs
-
 loop-holds : tie.Need-loop-holds Inv-loop μ-loop
 loop-holds c =
     let pre = c .before .before .before .before .before .before .pre in
@@ -36,14 +24,8 @@ loop-holds c =
     let long : length (c .before .before .before .before .line .result .at) ≡ 64 = search needs in
     (omega arith, pre .0, pre .1, line, long, backward-start _ _ _ line long _ _ _ (search needs) (c .before .before .initial .ensures) (c .before .recorded .ensures) (c .product .ensures))
 
-sub-k : tie.Need-sub-k Inv-loop μ-loop
-sub-k c = search needs
-
 array-read-e : tie.Need-array-read-e Inv-loop μ-loop
 array-read-e c = (let inv = c .before .loop .inv in omega (arith, inv .0, inv .3 .bounded, c .loop-test .taken))
-
-cast-e : tie.Need-cast-e Inv-loop μ-loop
-cast-e c = search needs
 
 event-byte-requires : tie.Need-event-byte-requires Inv-loop μ-loop
 event-byte-requires c κs =
@@ -86,18 +68,12 @@ array-set-from-h c =
     let place = placed _ _ _ (inv .3) (inv .4) (inv .2) (turn .before .before .loop .k - 1) _ _ (omega (arith, inv .0, turn .before .loop-test .taken)) refl (turn .event-byte .ensures .0) in
     omega (arith, place .high, inv .1 .most-events)
 
-loop-less : tie.Need-loop-less Inv-loop μ-loop
-loop-less c = search needs
-
 loop-again : tie.Need-loop-again Inv-loop μ-loop
 loop-again c =
     let turn = c .before .before .before in
     let inv = turn .before .before .loop .inv in
     let place = placed _ _ _ (inv .3) (inv .4) (inv .2) (turn .before .before .loop .k - 1) _ _ (omega (arith, inv .0, turn .before .loop-test .taken)) refl (turn .event-byte .ensures .0) in
     (omega (arith, inv .0), inv .1, inv .2, inv .3, inv .4, backward-with _ _ _ _ _ _ place (inv .5) (omega (arith, turn .before .loop-test .taken)) (inv .1) (c .before .before .if1 .taken) _ (c .with .ensures))
-
-loop-less-2 : tie.Need-loop-less-2 Inv-loop μ-loop
-loop-less-2 c = search needs
 
 loop-again-2 : tie.Need-loop-again-2 Inv-loop μ-loop
 loop-again-2 c =
@@ -115,22 +91,22 @@ program-order-spec =
     (tie.spec
     Inv-loop
     μ-loop
-    line-requires
-    initial-requires
-    recorded-requires
-    product-requires
+    (λ c κs. search needs)
+    (λ c κs. search needs)
+    (λ c κs. search needs)
+    (λ c κs. search needs)
     loop-holds
-    sub-k
+    (λ c. search needs)
     array-read-e
-    cast-e
+    (λ c. search needs)
     event-byte-requires
     mul-later
     array-copy-out-later
     with-requires
     mul-h
     array-set-from-h
-    loop-less
+    (λ c. search needs)
     loop-again
-    loop-less-2
+    (λ c. search needs)
     loop-again-2
     returns)

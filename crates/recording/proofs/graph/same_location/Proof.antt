@@ -23,32 +23,11 @@ Inv-loop file n rows h₀ e₀ h e = (e ≤ 64) × Sized file × (each (events f
 abbrev μ-loop : tie.MeasureT-loop
 μ-loop file n rows h₀ e₀ h e = 64 - e
 
-events-requires : tie.Need-events-requires Inv-loop μ-loop
-events-requires c κs = search needs
-
-by-location-requires : tie.Need-by-location-requires Inv-loop μ-loop
-by-location-requires c κs = search needs
-
-empty-requires : tie.Need-empty-requires Inv-loop μ-loop
-empty-requires c κs = search needs
-
 loop-holds : tie.Need-loop-holds Inv-loop μ-loop
 loop-holds c = (let pre = c .before .before .before .before .pre in (search needs, pre .0, pre .1, c .before .before .events .ensures .0, c .before .by-location .ensures, rows-none-of _ _ _ (search needs) (c .empty .ensures)))
 
 place-of-requires : tie.Need-place-of-requires Inv-loop μ-loop
 place-of-requires c κs = c .before .loop .inv .1
-
-mul-h : tie.Need-mul-h Inv-loop μ-loop
-mul-h c = search needs
-
-array-copy-out-h : tie.Need-array-copy-out-h Inv-loop μ-loop
-array-copy-out-h c = search needs
-
-mul-h-2 : tie.Need-mul-h-2 Inv-loop μ-loop
-mul-h-2 c = search needs
-
-array-set-from-h : tie.Need-array-set-from-h Inv-loop μ-loop
-array-set-from-h c = search needs
 
 following-requires : tie.Need-following-requires Inv-loop μ-loop
 following-requires c κs = (let turn = c .before .before in let inv = turn .before .loop .inv in (omega (arith, inv .1 .most-events, inv .3), turn .loop-test .taken))
@@ -78,15 +57,15 @@ same-location-spec =
     (tie.spec
     Inv-loop
     μ-loop
-    events-requires
-    by-location-requires
-    empty-requires
+    (λ c κs. search needs)
+    (λ c κs. search needs)
+    (λ c κs. search needs)
     loop-holds
     place-of-requires
-    mul-h
-    array-copy-out-h
-    mul-h-2
-    array-set-from-h
+    (λ c. search needs)
+    (λ c. search needs)
+    (λ c. search needs)
+    (λ c. search needs)
     following-requires
     loop-less
     loop-again

@@ -18,15 +18,9 @@ Inv-loop file n e₀ e = (e ≤ n) × (n ≡ events file) × Sized file × (each
 abbrev μ-loop : tie.MeasureT-loop
 μ-loop file n e₀ e = n - e
 
-events-requires : tie.Need-events-requires Inv-loop μ-loop
-events-requires c κs = search needs
-
 loop-holds : tie.Need-loop-holds Inv-loop μ-loop
 unfolding each
 loop-holds c = (search needs, c .events .ensures .0, c .before .before .pre, refl)
-
-add-e : tie.Need-add-e Inv-loop μ-loop
-add-e c = search needs
 
 event-legal-requires : tie.Need-event-legal-requires Inv-loop μ-loop
 event-legal-requires c κs = c .before .loop .inv .2
@@ -36,9 +30,6 @@ returns c =
     let at-loop = c .before .before .before in
     let inv = at-loop .loop .inv in
     sym (each-fails _ _ _ (omega arith) (sym (c .before .event-legal .ensures) ∙ not-true _ (c .if1 .taken)))
-
-loop-less : tie.Need-loop-less Inv-loop μ-loop
-loop-less c = search needs
 
 loop-again : tie.Need-loop-again Inv-loop μ-loop
 loop-again c =
@@ -56,11 +47,11 @@ events-legal-spec =
     (tie.spec
     Inv-loop
     μ-loop
-    events-requires
+    (λ c κs. search needs)
     loop-holds
-    add-e
+    (λ c. search needs)
     event-legal-requires
     returns
-    loop-less
+    (λ c. search needs)
     loop-again
     returns-2)

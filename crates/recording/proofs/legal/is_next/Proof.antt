@@ -7,14 +7,8 @@ use borrow.Author.Needs.{needs}
 use Rattle.recording.proofs.legal.is_next.Statement.{statement}
 use Rattle.recording.proofs.legal.is_next.Tie as tie
 
-is-recorded-requires : tie.Need-is-recorded-requires
-is-recorded-requires c κs = search needs
-
 returns : tie.Need-returns
 returns c = next-no _ _ _ (sym (c .before .is-recorded .ensures) ∙ not-true _ (c .if1 .taken))
-
-is-recorded-requires-2 : tie.Need-is-recorded-requires-2
-is-recorded-requires-2 c κs = search needs
 
 event-byte-requires : tie.Need-event-byte-requires
 event-byte-requires c κs =
@@ -35,9 +29,9 @@ pub is-next-spec : {M : Type 1} → statement M
 is-next-spec =
     tie.close
     (tie.spec
-    is-recorded-requires
+    (λ c κs. search needs)
     returns
-    is-recorded-requires-2
+    (λ c κs. search needs)
     event-byte-requires
     returns-2
     returns-3)

@@ -6,29 +6,17 @@ use borrow.Author.Needs.{needs}
 use Rattle.recording.proofs.legal.legal.Statement.{statement}
 use Rattle.recording.proofs.legal.legal.Tie as tie
 
-read-legal-requires : tie.Need-read-legal-requires
-read-legal-requires c κs = search needs
-
 returns : tie.Need-returns
 returns c = legal-read _ _ _ _ _ _ _ _ (c .before .before .if1 .taken) (and-yes _ _ _ _ (c .before .read-legal .ensures) (c .if2 .taken) refl)
 
 returns-2 : tie.Need-returns-2
 returns-2 c = legal-read _ _ _ _ _ _ _ _ (c .before .before .if1 .taken) (and-no _ _ _ (c .before .read-legal .ensures) (c .if2 .left))
 
-write-legal-requires : tie.Need-write-legal-requires
-write-legal-requires c κs = search needs
-
 returns-3 : tie.Need-returns-3
 returns-3 c = legal-write _ _ _ _ _ _ _ _ (c .before .before .if3 .taken) (and-yes _ _ _ _ (c .before .write-legal .ensures) (c .if4 .taken) refl)
 
 returns-4 : tie.Need-returns-4
 returns-4 c = legal-write _ _ _ _ _ _ _ _ (c .before .before .if3 .taken) (and-no _ _ _ (c .before .write-legal .ensures) (c .if4 .left))
-
-fence-legal-requires : tie.Need-fence-legal-requires
-fence-legal-requires c κs = search needs
-
-both-zero-requires : tie.Need-both-zero-requires
-both-zero-requires c κs = search needs
 
 returns-5 : tie.Need-returns-5
 returns-5 c =
@@ -45,14 +33,14 @@ pub legal-spec : {M : Type 1} → statement M
 legal-spec =
     tie.close
     (tie.spec
-    read-legal-requires
+    (λ c κs. search needs)
     returns
     returns-2
-    write-legal-requires
+    (λ c κs. search needs)
     returns-3
     returns-4
-    fence-legal-requires
-    both-zero-requires
+    (λ c κs. search needs)
+    (λ c κs. search needs)
     returns-5
     returns-6
     returns-7)

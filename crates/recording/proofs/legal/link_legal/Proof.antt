@@ -4,44 +4,23 @@ use borrow.Author.Needs.{needs}
 use Rattle.recording.proofs.legal.link_legal.Statement.{statement}
 use Rattle.recording.proofs.legal.link_legal.Tie as tie
 
-rf-legal-requires : tie.Need-rf-legal-requires
-rf-legal-requires c κs = search needs
-
 returns : tie.Need-returns
 returns c = link-rf _ _ _ _ _ _ (c .before .if1 .taken) (c .rf-legal .ensures)
-
-co-legal-requires : tie.Need-co-legal-requires
-co-legal-requires c κs = search needs
 
 returns-2 : tie.Need-returns-2
 returns-2 c = link-co _ _ _ _ _ _ (c .before .if2 .taken) (c .co-legal .ensures)
 
-rmw-legal-requires : tie.Need-rmw-legal-requires
-rmw-legal-requires c κs = search needs
-
 returns-3 : tie.Need-returns-3
 returns-3 c = link-rmw _ _ _ _ _ _ (c .before .if3 .taken) (c .rmw-legal .ensures)
-
-data-legal-requires : tie.Need-data-legal-requires
-data-legal-requires c κs = search needs
 
 returns-4 : tie.Need-returns-4
 returns-4 c = link-data _ _ _ _ _ _ (c .before .if4 .taken) (c .data-legal .ensures)
 
-addr-legal-requires : tie.Need-addr-legal-requires
-addr-legal-requires c κs = search needs
-
 returns-5 : tie.Need-returns-5
 returns-5 c = link-addr _ _ _ _ _ _ (c .before .if5 .taken) (c .addr-legal .ensures)
 
-from-read-requires : tie.Need-from-read-requires
-from-read-requires c κs = search needs
-
 returns-6 : tie.Need-returns-6
 returns-6 c = link-ctrl _ _ _ _ _ _ (c .before .if6 .taken) (c .from-read .ensures)
-
-casdep-legal-requires : tie.Need-casdep-legal-requires
-casdep-legal-requires c κs = search needs
 
 returns-7 : tie.Need-returns-7
 returns-7 c = link-casdep _ _ _ _ _ _ (c .before .if7 .taken) (c .casdep-legal .ensures)
@@ -53,18 +32,18 @@ pub link-legal-spec : {M : Type 1} → statement M
 link-legal-spec =
     tie.close
     (tie.spec
-    rf-legal-requires
+    (λ c κs. search needs)
     returns
-    co-legal-requires
+    (λ c κs. search needs)
     returns-2
-    rmw-legal-requires
+    (λ c κs. search needs)
     returns-3
-    data-legal-requires
+    (λ c κs. search needs)
     returns-4
-    addr-legal-requires
+    (λ c κs. search needs)
     returns-5
-    from-read-requires
+    (λ c κs. search needs)
     returns-6
-    casdep-legal-requires
+    (λ c κs. search needs)
     returns-7
     returns-8)

@@ -11,20 +11,11 @@ use borrow.Author.Needs.{needs}
 use Rattle.recording.proofs.legal.link_sound.Statement.{statement}
 use Rattle.recording.proofs.legal.link_sound.Tie as tie
 
-link-byte-requires : tie.Need-link-byte-requires
-link-byte-requires c κs = search needs
-
-link-byte-requires-2 : tie.Need-link-byte-requires-2
-link-byte-requires-2 c κs = search needs
-
 link-legal-requires : tie.Need-link-legal-requires
 link-legal-requires c κs =
     let pre = c .before .before .before .pre in
     let a = c .link-byte2 .ensures .0 in
     (pre .0, λ h. pre .3 (subst (λ (x : ℕ). x < 64) a h) ∙ ap (λ (x : ℕ). base nodes (decode (c .before .before .before .args .file .now)) .po x (c .before .before .before .args .b)) (sym a))
-
-link-byte-requires-3 : tie.Need-link-byte-requires-3
-link-byte-requires-3 c κs = search needs
 
 returns : tie.Need-returns
 unfolding linkSound
@@ -41,9 +32,9 @@ pub link-sound-spec : {M : Type 1} → statement M
 link-sound-spec =
     tie.close
     (tie.spec
-    link-byte-requires
-    link-byte-requires-2
+    (λ c κs. search needs)
+    (λ c κs. search needs)
     link-legal-requires
-    link-byte-requires-3
+    (λ c κs. search needs)
     returns
     returns-2)

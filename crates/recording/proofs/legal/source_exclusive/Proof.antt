@@ -5,17 +5,8 @@ use borrow.Author.Needs.{needs}
 use Rattle.recording.proofs.legal.source_exclusive.Statement.{statement}
 use Rattle.recording.proofs.legal.source_exclusive.Tie as tie
 
-shared-slice-read-is-source : tie.Need-shared-slice-read-is-source
-shared-slice-read-is-source c = search needs
-
 cast-is-source : tie.Need-cast-is-source
 cast-is-source c = omega (arith, c .shared-slice-known2 .given 0)
-
-is-source-requires : tie.Need-is-source-requires
-is-source-requires c κs = search needs
-
-is-flagged-requires : tie.Need-is-flagged-requires
-is-flagged-requires c κs = search needs
 
 returns : tie.Need-returns
 returns c = and-yes _ _ _ _ (c .before .before .is-source .ensures) (c .before .if1 .taken) (c .is-flagged .ensures)
@@ -27,9 +18,9 @@ pub source-exclusive-spec : {M : Type 1} → statement M
 source-exclusive-spec =
     tie.close
     (tie.spec
-    shared-slice-read-is-source
+    (λ c. search needs)
     cast-is-source
-    is-source-requires
-    is-flagged-requires
+    (λ c κs. search needs)
+    (λ c κs. search needs)
     returns
     returns-2)

@@ -17,24 +17,6 @@ Inv-loop file b from h₀ n₀ cursor₀ h n cursor = Sized file × (1 ≤ b) ×
 abbrev μ-loop : tie.MeasureT-loop
 μ-loop file b from h₀ n₀ cursor₀ h n cursor = n
 
-events-requires : tie.Need-events-requires Inv-loop μ-loop
-events-requires c κs = search needs
-
-mul-from : tie.Need-mul-from Inv-loop μ-loop
-mul-from c = search needs
-
-add-from : tie.Need-add-from Inv-loop μ-loop
-add-from c = search needs
-
-links-requires : tie.Need-links-requires Inv-loop μ-loop
-links-requires c κs = search needs
-
-add-n : tie.Need-add-n Inv-loop μ-loop
-add-n c = search needs
-
-sub-start : tie.Need-sub-start Inv-loop μ-loop
-sub-start c = search needs
-
 start-requires : tie.Need-start-requires Inv-loop μ-loop
 start-requires c κs = omega (arith, c .before .before .before .pre .0 .long)
 
@@ -60,12 +42,6 @@ link-byte-requires c κs =
     let one = sorted-head _ _ _ (at-loop .loop .n - 1) _ _ (omega arith) (c .if1 .left) (inv .4) in
     (inv .0, omega (arith, c .if1 .left), readable-le _ _ one, search needs)
 
-mul-x : tie.Need-mul-x Inv-loop μ-loop
-mul-x c = search needs
-
-array-copy-out-x : tie.Need-array-copy-out-x Inv-loop μ-loop
-array-copy-out-x c = search needs
-
 link-byte-requires-2 : tie.Need-link-byte-requires-2 Inv-loop μ-loop
 link-byte-requires-2 c κs =
     let at-loop = c .before .before .before .before .before in
@@ -82,12 +58,6 @@ with-requires c κs =
     let one = sorted-head _ _ _ (at-loop .loop .n - 1) _ _ (omega arith) some-link (inv .4) in
     omega (arith, readable-lt _ _ one, c .link-byte2 .ensures .0)
 
-mul-h : tie.Need-mul-h Inv-loop μ-loop
-mul-h c = search needs
-
-array-set-from-h : tie.Need-array-set-from-h Inv-loop μ-loop
-array-set-from-h c = search needs
-
 moved-requires : tie.Need-moved-requires Inv-loop μ-loop
 moved-requires c κs =
     let at-loop = c .before .before .before .before in
@@ -95,12 +65,6 @@ moved-requires c κs =
     let some-link = c .before .before .if1 .left in
     let one = sorted-head _ _ _ (at-loop .loop .n - 1) _ _ (omega arith) some-link (inv .4) in
     (omega (arith, some-link), omega (arith, readable-le _ _ one, inv .0 .long, inv .3, some-link))
-
-sub-n : tie.Need-sub-n Inv-loop μ-loop
-sub-n c = search needs
-
-loop-less : tie.Need-loop-less Inv-loop μ-loop
-loop-less c = search needs
 
 loop-again : tie.Need-loop-again Inv-loop μ-loop
 loop-again c =
@@ -125,24 +89,24 @@ by-type-spec =
     (tie.spec
     Inv-loop
     μ-loop
-    events-requires
-    mul-from
-    add-from
-    links-requires
-    add-n
-    sub-start
+    (λ c κs. search needs)
+    (λ c. search needs)
+    (λ c. search needs)
+    (λ c κs. search needs)
+    (λ c. search needs)
+    (λ c. search needs)
     start-requires
     loop-holds
     returns
     link-byte-requires
-    mul-x
-    array-copy-out-x
+    (λ c. search needs)
+    (λ c. search needs)
     link-byte-requires-2
     with-requires
-    mul-h
-    array-set-from-h
+    (λ c. search needs)
+    (λ c. search needs)
     moved-requires
-    sub-n
-    loop-less
+    (λ c. search needs)
+    (λ c. search needs)
     loop-again
     returns-2)

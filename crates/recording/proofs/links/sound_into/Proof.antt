@@ -31,23 +31,8 @@ abbrev μ-loop : tie.MeasureT-loop
 events-requires : tie.Need-events-requires Inv-loop μ-loop
 events-requires c κs = c .before .pre .0 .sized
 
-mul-from : tie.Need-mul-from Inv-loop μ-loop
-mul-from c = search needs
-
-add-from : tie.Need-add-from Inv-loop μ-loop
-add-from c = search needs
-
-none-requires : tie.Need-none-requires Inv-loop μ-loop
-none-requires c κs = search needs
-
 links-requires : tie.Need-links-requires Inv-loop μ-loop
 links-requires c κs = c .before .before .before .pre .0 .sized
-
-add-n : tie.Need-add-n Inv-loop μ-loop
-add-n c = search needs
-
-sub-start : tie.Need-sub-start Inv-loop μ-loop
-sub-start c = search needs
 
 start-requires : tie.Need-start-requires Inv-loop μ-loop
 start-requires c κs = let pre = c .before .before .before .before .pre in omega (arith, pre .0 .sized .long, pre .2, pre .3)
@@ -64,9 +49,6 @@ loop-holds c =
       along-start _ _ _ _ _ _ (c .before .links .ensures .0) (c .start .ensures .0) (pre .0 .chains _ (pre .2) (pre .3)),
       taken-start _ _ _ _ _ _ (c .before .before .none .ensures) (c .before .links .ensures .0) (c .start .ensures .0),
     )
-
-one-source-requires : tie.Need-one-source-requires Inv-loop μ-loop
-one-source-requires c κs = search needs
 
 returns : tie.Need-returns Inv-loop μ-loop
 unfolding linksSoundAt
@@ -136,12 +118,6 @@ moved-requires c κs =
     let inside = within-le _ _ (along-head _ _ _ _ _ (at-loop .loop .n - 1) _ (omega arith) some-link (inv .5)) in
     (omega (arith, some-link), omega (arith, inside, inv .0 .sized .long, inv .4, some-link))
 
-sub-n : tie.Need-sub-n Inv-loop μ-loop
-sub-n c = search needs
-
-loop-less : tie.Need-loop-less Inv-loop μ-loop
-loop-less c = search needs
-
 loop-again : tie.Need-loop-again Inv-loop μ-loop
 loop-again c =
     let at-loop = c .before .before .before .before .before .before .before .before .before .before .before in
@@ -175,9 +151,6 @@ loop-again c =
       )
     ]
 
-one-source-requires-2 : tie.Need-one-source-requires-2 Inv-loop μ-loop
-one-source-requires-2 c κs = search needs
-
 returns-3 : tie.Need-returns-3 Inv-loop μ-loop
 unfolding linksSoundAt
 returns-3 c =
@@ -192,15 +165,15 @@ sound-into-spec =
     Inv-loop
     μ-loop
     events-requires
-    mul-from
-    add-from
-    none-requires
+    (λ c. search needs)
+    (λ c. search needs)
+    (λ c κs. search needs)
     links-requires
-    add-n
-    sub-start
+    (λ c. search needs)
+    (λ c. search needs)
     start-requires
     loop-holds
-    one-source-requires
+    (λ c κs. search needs)
     returns
     link-byte-requires
     mul-after
@@ -211,8 +184,8 @@ sound-into-spec =
     with-requires
     link-byte-requires-2
     moved-requires
-    sub-n
-    loop-less
+    (λ c. search needs)
+    (λ c. search needs)
     loop-again
-    one-source-requires-2
+    (λ c κs. search needs)
     returns-3)

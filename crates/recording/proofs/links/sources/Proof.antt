@@ -18,27 +18,6 @@ Inv-loop file b t from r₀ n₀ cursor₀ r n cursor = Sized file × (1 ≤ b) 
 abbrev μ-loop : tie.MeasureT-loop
 μ-loop file b t from r₀ n₀ cursor₀ r n cursor = n
 
-events-requires : tie.Need-events-requires Inv-loop μ-loop
-events-requires c κs = search needs
-
-mul-from : tie.Need-mul-from Inv-loop μ-loop
-mul-from c = search needs
-
-add-from : tie.Need-add-from Inv-loop μ-loop
-add-from c = search needs
-
-none-requires : tie.Need-none-requires Inv-loop μ-loop
-none-requires c κs = search needs
-
-links-requires : tie.Need-links-requires Inv-loop μ-loop
-links-requires c κs = search needs
-
-add-n : tie.Need-add-n Inv-loop μ-loop
-add-n c = search needs
-
-sub-start : tie.Need-sub-start Inv-loop μ-loop
-sub-start c = search needs
-
 start-requires : tie.Need-start-requires Inv-loop μ-loop
 start-requires c κs = omega (arith, c .before .before .before .before .pre .0 .long)
 
@@ -87,12 +66,6 @@ moved-requires c κs =
     let inside = readable-le _ _ (gathered-head _ _ _ _ (at-loop .loop .n - 1) _ _ (omega arith) some-link (inv .4)) in
     (omega (arith, some-link), omega (arith, inside, inv .0 .long, inv .3, some-link))
 
-sub-n : tie.Need-sub-n Inv-loop μ-loop
-sub-n c = search needs
-
-loop-less : tie.Need-loop-less Inv-loop μ-loop
-loop-less c = search needs
-
 loop-again : tie.Need-loop-again Inv-loop μ-loop
 loop-again c =
     let at-loop = c .before .before .before .before .before .before .before in
@@ -123,13 +96,13 @@ sources-spec =
     (tie.spec
     Inv-loop
     μ-loop
-    events-requires
-    mul-from
-    add-from
-    none-requires
-    links-requires
-    add-n
-    sub-start
+    (λ c κs. search needs)
+    (λ c. search needs)
+    (λ c. search needs)
+    (λ c κs. search needs)
+    (λ c κs. search needs)
+    (λ c. search needs)
+    (λ c. search needs)
     start-requires
     loop-holds
     returns
@@ -137,7 +110,7 @@ sources-spec =
     with-requires
     link-byte-requires-2
     moved-requires
-    sub-n
-    loop-less
+    (λ c. search needs)
+    (λ c. search needs)
     loop-again
     returns-2)

@@ -16,9 +16,6 @@ Inv-loop file row k h₀ e₀ h e = Sized file × (k < 8) × AllRecorded file (b
 abbrev μ-loop : tie.MeasureT-loop
 μ-loop file row k h₀ e₀ h e = 64 - e
 
-first-requires : tie.Need-first-requires Inv-loop μ-loop
-first-requires c κs = search needs
-
 loop-holds : tie.Need-loop-holds Inv-loop μ-loop
 loop-holds c = (let pre = c .before .before .pre in (pre .0, pre .1, pre .2, sorting-first _ _ _ _ (c .first .ensures)))
 
@@ -27,27 +24,6 @@ event-byte-requires c κs =
     let inv = c .before .loop .inv in
     let bounds = sorting-recorded _ _ _ (inv .2) _ _ (inv .3) (c .loop-test .taken) in
     (inv .0, bounds .0, bounds .1, inv .1)
-
-mul-x : tie.Need-mul-x Inv-loop μ-loop
-mul-x c = search needs
-
-array-copy-out-x : tie.Need-array-copy-out-x Inv-loop μ-loop
-array-copy-out-x c = search needs
-
-with-requires : tie.Need-with-requires Inv-loop μ-loop
-with-requires c κs = search needs
-
-mul-h : tie.Need-mul-h Inv-loop μ-loop
-mul-h c = search needs
-
-array-set-from-h : tie.Need-array-set-from-h Inv-loop μ-loop
-array-set-from-h c = search needs
-
-add-next : tie.Need-add-next Inv-loop μ-loop
-add-next c = search needs
-
-next-requires : tie.Need-next-requires Inv-loop μ-loop
-next-requires c κs = search needs
 
 loop-less : tie.Need-loop-less Inv-loop μ-loop
 loop-less c = omega (arith, c .next .ensures .low, c .before .before .before .loop-test .taken)
@@ -72,16 +48,16 @@ sorted-spec =
     (tie.spec
     Inv-loop
     μ-loop
-    first-requires
+    (λ c κs. search needs)
     loop-holds
     event-byte-requires
-    mul-x
-    array-copy-out-x
-    with-requires
-    mul-h
-    array-set-from-h
-    add-next
-    next-requires
+    (λ c. search needs)
+    (λ c. search needs)
+    (λ c κs. search needs)
+    (λ c. search needs)
+    (λ c. search needs)
+    (λ c. search needs)
+    (λ c κs. search needs)
     loop-less
     loop-again
     returns)

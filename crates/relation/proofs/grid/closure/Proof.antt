@@ -26,45 +26,9 @@ abbrev μ-loop : tie.MeasureT-loop
 loop-holds : tie.Need-loop-holds Inv-loop2 μ-loop2 Inv-loop μ-loop
 loop-holds c = (search needs, plus-none _, search needs)
 
-mul-y : tie.Need-mul-y Inv-loop2 μ-loop2 Inv-loop μ-loop
-mul-y c = search needs
-
-array-copy-out-y : tie.Need-array-copy-out-y Inv-loop2 μ-loop2 Inv-loop μ-loop
-array-copy-out-y c = search needs
-
-first-requires : tie.Need-first-requires Inv-loop2 μ-loop2 Inv-loop μ-loop
-first-requires c κs = search needs
-
 loop2-holds : tie.Need-loop2-holds Inv-loop2 μ-loop2 Inv-loop μ-loop
 unfolding edge
 loop2-holds c = (search needs, rows-none _ _ (c .before .before .before .before .loop .inv .2), c .before .before .before .before .loop .inv .2, refl)
-
-mul-x : tie.Need-mul-x Inv-loop2 μ-loop2 Inv-loop μ-loop
-mul-x c = search needs
-
-array-copy-out-x : tie.Need-array-copy-out-x Inv-loop2 μ-loop2 Inv-loop μ-loop
-array-copy-out-x c = search needs
-
-has-requires : tie.Need-has-requires Inv-loop2 μ-loop2 Inv-loop μ-loop
-has-requires c κs = search needs
-
-given-requires : tie.Need-given-requires Inv-loop2 μ-loop2 Inv-loop μ-loop
-given-requires c κs = search needs
-
-or-requires : tie.Need-or-requires Inv-loop2 μ-loop2 Inv-loop μ-loop
-or-requires c κs = search needs
-
-mul-h : tie.Need-mul-h Inv-loop2 μ-loop2 Inv-loop μ-loop
-mul-h c = search needs
-
-array-set-from-h : tie.Need-array-set-from-h Inv-loop2 μ-loop2 Inv-loop μ-loop
-array-set-from-h c = search needs
-
-add-i : tie.Need-add-i Inv-loop2 μ-loop2 Inv-loop μ-loop
-add-i c = search needs
-
-loop2-less : tie.Need-loop2-less Inv-loop2 μ-loop2 Inv-loop μ-loop
-loop2-less c = search needs
 
 loop2-again : tie.Need-loop2-again Inv-loop2 μ-loop2 Inv-loop μ-loop
 unfolding edge
@@ -72,12 +36,6 @@ loop2-again c =
     let turn = c .before .before .before .before in
     let inv = turn .before .loop2 .inv in
     (search needs, rows-set _ _ _ _ _ (inv .1) (turn .loop2-test .taken) (c .or .ensures ∙ ap (union _) (c .before .given .ensures) ∙ through-row _ _ _ _ _ _ (inv .1 .rest _ (omega arith)) (inv .3) (c .before .before .has .ensures)), inv .2, inv .3)
-
-add-k : tie.Need-add-k Inv-loop2 μ-loop2 Inv-loop μ-loop
-add-k c = search needs
-
-loop-less : tie.Need-loop-less Inv-loop2 μ-loop2 Inv-loop μ-loop
-loop-less c = search needs
 
 loop-again : tie.Need-loop-again Inv-loop2 μ-loop2 Inv-loop μ-loop
 unfolding edge
@@ -101,21 +59,21 @@ closure-spec =
     Inv-loop
     μ-loop
     loop-holds
-    mul-y
-    array-copy-out-y
-    first-requires
+    (λ c. search needs)
+    (λ c. search needs)
+    (λ c κs. search needs)
     loop2-holds
-    mul-x
-    array-copy-out-x
-    has-requires
-    given-requires
-    or-requires
-    mul-h
-    array-set-from-h
-    add-i
-    loop2-less
+    (λ c. search needs)
+    (λ c. search needs)
+    (λ c κs. search needs)
+    (λ c κs. search needs)
+    (λ c κs. search needs)
+    (λ c. search needs)
+    (λ c. search needs)
+    (λ c. search needs)
+    (λ c. search needs)
     loop2-again
-    add-k
-    loop-less
+    (λ c. search needs)
+    (λ c. search needs)
     loop-again
     returns)

@@ -13,29 +13,8 @@ Inv-loop s g r₀ i₀ r i = Reached (bit s) (edge g) (bit r) i
 abbrev μ-loop : tie.MeasureT-loop
 μ-loop s g r₀ i₀ r i = 64 - i
 
-none-requires : tie.Need-none-requires Inv-loop μ-loop
-none-requires c κs = search needs
-
-first-requires : tie.Need-first-requires Inv-loop μ-loop
-first-requires c κs = search needs
-
 loop-holds : tie.Need-loop-holds Inv-loop μ-loop
 loop-holds c = reached-first _ _ _ _ (c .before .none .ensures) (c .first .ensures)
-
-mul-x : tie.Need-mul-x Inv-loop μ-loop
-mul-x c = search needs
-
-array-copy-out-x : tie.Need-array-copy-out-x Inv-loop μ-loop
-array-copy-out-x c = search needs
-
-or-requires : tie.Need-or-requires Inv-loop μ-loop
-or-requires c κs = search needs
-
-add-next : tie.Need-add-next Inv-loop μ-loop
-add-next c = search needs
-
-next-requires : tie.Need-next-requires Inv-loop μ-loop
-next-requires c κs = search needs
 
 loop-less : tie.Need-loop-less Inv-loop μ-loop
 loop-less c = (let turn = c .before .before .before in omega (arith, c .next .ensures .low, turn .loop-test .taken))
@@ -53,14 +32,14 @@ image-spec =
     (tie.spec
     Inv-loop
     μ-loop
-    none-requires
-    first-requires
+    (λ c κs. search needs)
+    (λ c κs. search needs)
     loop-holds
-    mul-x
-    array-copy-out-x
-    or-requires
-    add-next
-    next-requires
+    (λ c. search needs)
+    (λ c. search needs)
+    (λ c κs. search needs)
+    (λ c. search needs)
+    (λ c κs. search needs)
     loop-less
     loop-again
     returns)

@@ -21,57 +21,18 @@ Inv-loop g h₀ i₀ j₀ h i j = (i ≤ 64) × (edge h ≡ turnedBelow (edge g)
 abbrev μ-loop : tie.MeasureT-loop
 μ-loop g h₀ i₀ j₀ h i j = 64 - i
 
-empty-requires : tie.Need-empty-requires Inv-loop2 μ-loop2 Inv-loop μ-loop
-empty-requires c κs = search needs
-
 loop-holds : tie.Need-loop-holds Inv-loop2 μ-loop2 Inv-loop μ-loop
 loop-holds c = (search needs, c .empty .ensures ∙ turned-none _ (search needs), search needs, search needs)
-
-mul-x : tie.Need-mul-x Inv-loop2 μ-loop2 Inv-loop μ-loop
-mul-x c = search needs
-
-array-copy-out-x : tie.Need-array-copy-out-x Inv-loop2 μ-loop2 Inv-loop μ-loop
-array-copy-out-x c = search needs
-
-first-requires : tie.Need-first-requires Inv-loop2 μ-loop2 Inv-loop μ-loop
-first-requires c κs = search needs
 
 loop2-holds : tie.Need-loop2-holds Inv-loop2 μ-loop2 Inv-loop μ-loop
 unfolding edge
 loop2-holds c = (let inv = c .before .before .before .loop .inv in turning-first _ _ _ _ _ (inv .3) (inv .2) (inv .1) refl (c .first .ensures))
-
-mul-y : tie.Need-mul-y Inv-loop2 μ-loop2 Inv-loop μ-loop
-mul-y c = search needs
-
-array-copy-out-y : tie.Need-array-copy-out-y Inv-loop2 μ-loop2 Inv-loop μ-loop
-array-copy-out-y c = search needs
-
-with-requires : tie.Need-with-requires Inv-loop2 μ-loop2 Inv-loop μ-loop
-with-requires c κs = search needs
-
-mul-h : tie.Need-mul-h Inv-loop2 μ-loop2 Inv-loop μ-loop
-mul-h c = search needs
-
-array-set-from-h : tie.Need-array-set-from-h Inv-loop2 μ-loop2 Inv-loop μ-loop
-array-set-from-h c = search needs
-
-add-next : tie.Need-add-next Inv-loop2 μ-loop2 Inv-loop μ-loop
-add-next c = search needs
-
-next-requires : tie.Need-next-requires Inv-loop2 μ-loop2 Inv-loop μ-loop
-next-requires c κs = search needs
 
 loop2-less : tie.Need-loop2-less Inv-loop2 μ-loop2 Inv-loop μ-loop
 loop2-less c = (let turn = c .before .before .before in omega (arith, c .next .ensures .low, turn .loop2-test .taken))
 
 loop2-again : tie.Need-loop2-again Inv-loop2 μ-loop2 Inv-loop μ-loop
 loop2-again c = (let turn = c .before .before .before in turning-next _ _ _ _ _ (turn .before .loop2 .inv) (turn .loop2-test .taken) (c .before .before .before .before .before .before .before .loop-test .taken) _ _ (c .before .with .ensures) (c .next .ensures))
-
-add-i : tie.Need-add-i Inv-loop2 μ-loop2 Inv-loop μ-loop
-add-i c = search needs
-
-loop-less : tie.Need-loop-less Inv-loop2 μ-loop2 Inv-loop μ-loop
-loop-less c = search needs
 
 loop-again : tie.Need-loop-again Inv-loop2 μ-loop2 Inv-loop μ-loop
 loop-again c = (let inv = c .before .loop2 .inv in (search needs, turning-all _ _ _ _ _ inv (c .loop2-test .left), inv .long, inv .given))
@@ -87,22 +48,22 @@ inverse-spec =
     μ-loop2
     Inv-loop
     μ-loop
-    empty-requires
+    (λ c κs. search needs)
     loop-holds
-    mul-x
-    array-copy-out-x
-    first-requires
+    (λ c. search needs)
+    (λ c. search needs)
+    (λ c κs. search needs)
     loop2-holds
-    mul-y
-    array-copy-out-y
-    with-requires
-    mul-h
-    array-set-from-h
-    add-next
-    next-requires
+    (λ c. search needs)
+    (λ c. search needs)
+    (λ c κs. search needs)
+    (λ c. search needs)
+    (λ c. search needs)
+    (λ c. search needs)
+    (λ c κs. search needs)
     loop2-less
     loop2-again
-    add-i
-    loop-less
+    (λ c. search needs)
+    (λ c. search needs)
     loop-again
     returns)

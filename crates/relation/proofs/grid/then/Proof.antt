@@ -22,41 +22,11 @@ Inv-loop a b h₀ i₀ j₀ h i j = (i ≤ 64) × Rows (chain nodes (edge a) (ed
 abbrev μ-loop : tie.MeasureT-loop
 μ-loop a b h₀ i₀ j₀ h i j = 64 - i
 
-none-requires : tie.Need-none-requires Inv-loop2 μ-loop2 Inv-loop μ-loop
-none-requires c κs = search needs
-
 loop-holds : tie.Need-loop-holds Inv-loop2 μ-loop2 Inv-loop μ-loop
 loop-holds c = (search needs, rows-none _ _ (search needs), search needs)
 
-mul-x : tie.Need-mul-x Inv-loop2 μ-loop2 Inv-loop μ-loop
-mul-x c = search needs
-
-array-copy-out-x : tie.Need-array-copy-out-x Inv-loop2 μ-loop2 Inv-loop μ-loop
-array-copy-out-x c = search needs
-
-none-requires-2 : tie.Need-none-requires-2 Inv-loop2 μ-loop2 Inv-loop μ-loop
-none-requires-2 c κs = search needs
-
-first-requires : tie.Need-first-requires Inv-loop2 μ-loop2 Inv-loop μ-loop
-first-requires c κs = search needs
-
 loop2-holds : tie.Need-loop2-holds Inv-loop2 μ-loop2 Inv-loop μ-loop
 loop2-holds c = reached-first _ _ _ _ (c .before .none2 .ensures) (c .first .ensures)
-
-mul-y : tie.Need-mul-y Inv-loop2 μ-loop2 Inv-loop μ-loop
-mul-y c = search needs
-
-array-copy-out-y : tie.Need-array-copy-out-y Inv-loop2 μ-loop2 Inv-loop μ-loop
-array-copy-out-y c = search needs
-
-or-requires : tie.Need-or-requires Inv-loop2 μ-loop2 Inv-loop μ-loop
-or-requires c κs = search needs
-
-add-next : tie.Need-add-next Inv-loop2 μ-loop2 Inv-loop μ-loop
-add-next c = search needs
-
-next-requires : tie.Need-next-requires Inv-loop2 μ-loop2 Inv-loop μ-loop
-next-requires c κs = search needs
 
 loop2-less : tie.Need-loop2-less Inv-loop2 μ-loop2 Inv-loop μ-loop
 loop2-less c = (let turn = c .before .before .before in omega (arith, c .next .ensures .low, turn .loop2-test .taken))
@@ -64,18 +34,6 @@ loop2-less c = (let turn = c .before .before .before in omega (arith, c .next .e
 loop2-again : tie.Need-loop2-again Inv-loop2 μ-loop2 Inv-loop μ-loop
 unfolding edge
 loop2-again c = (let turn = c .before .before .before in reached-next _ _ _ _ (turn .before .loop2 .inv) (turn .loop2-test .taken) _ _ (c .before .or .ensures) (c .next .ensures))
-
-mul-h : tie.Need-mul-h Inv-loop2 μ-loop2 Inv-loop μ-loop
-mul-h c = search needs
-
-array-set-from-h : tie.Need-array-set-from-h Inv-loop2 μ-loop2 Inv-loop μ-loop
-array-set-from-h c = search needs
-
-add-i : tie.Need-add-i Inv-loop2 μ-loop2 Inv-loop μ-loop
-add-i c = search needs
-
-loop-less : tie.Need-loop-less Inv-loop2 μ-loop2 Inv-loop μ-loop
-loop-less c = search needs
 
 loop-again : tie.Need-loop-again Inv-loop2 μ-loop2 Inv-loop μ-loop
 unfolding edge chain
@@ -96,23 +54,23 @@ then-spec =
     μ-loop2
     Inv-loop
     μ-loop
-    none-requires
+    (λ c κs. search needs)
     loop-holds
-    mul-x
-    array-copy-out-x
-    none-requires-2
-    first-requires
+    (λ c. search needs)
+    (λ c. search needs)
+    (λ c κs. search needs)
+    (λ c κs. search needs)
     loop2-holds
-    mul-y
-    array-copy-out-y
-    or-requires
-    add-next
-    next-requires
+    (λ c. search needs)
+    (λ c. search needs)
+    (λ c κs. search needs)
+    (λ c. search needs)
+    (λ c κs. search needs)
     loop2-less
     loop2-again
-    mul-h
-    array-set-from-h
-    add-i
-    loop-less
+    (λ c. search needs)
+    (λ c. search needs)
+    (λ c. search needs)
+    (λ c. search needs)
     loop-again
     returns)

@@ -26,35 +26,11 @@ Inv-loop before left₀ at₀ n₀ k₀ left at n k = (n ≤ 64) × Out (inverse
 abbrev μ-loop : tie.MeasureT-loop
 μ-loop before left₀ at₀ n₀ k₀ left at n k = 64 - n
 
-inverse-requires : tie.Need-inverse-requires Inv-loop2 μ-loop2 Inv-loop μ-loop
-inverse-requires c κs = search needs
-
 loop-holds : tie.Need-loop-holds Inv-loop2 μ-loop2 Inv-loop μ-loop
 loop-holds c = (search needs, out-none _ _ (replicate 64 0) (search needs))
 
-first-requires : tie.Need-first-requires Inv-loop2 μ-loop2 Inv-loop μ-loop
-first-requires c κs = search needs
-
 loop2-holds : tie.Need-loop2-holds Inv-loop2 μ-loop2 Inv-loop μ-loop
 loop2-holds c = seeking-first _ _ (not-ready _ _) _ (c .first .ensures)
-
-mul-p : tie.Need-mul-p Inv-loop2 μ-loop2 Inv-loop μ-loop
-mul-p c = search needs
-
-array-copy-out-p : tie.Need-array-copy-out-p Inv-loop2 μ-loop2 Inv-loop μ-loop
-array-copy-out-p c = search needs
-
-and-requires : tie.Need-and-requires Inv-loop2 μ-loop2 Inv-loop μ-loop
-and-requires c κs = search needs
-
-first-requires-2 : tie.Need-first-requires-2 Inv-loop2 μ-loop2 Inv-loop μ-loop
-first-requires-2 c κs = search needs
-
-add-next : tie.Need-add-next Inv-loop2 μ-loop2 Inv-loop μ-loop
-add-next c = search needs
-
-next-requires : tie.Need-next-requires Inv-loop2 μ-loop2 Inv-loop μ-loop
-next-requires c κs = search needs
 
 loop2-less : tie.Need-loop2-less Inv-loop2 μ-loop2 Inv-loop μ-loop
 loop2-less c = (let turn = c .before .before .before .before .before in omega (arith, c .next .ensures .low, turn .loop2-test .taken))
@@ -86,21 +62,6 @@ returns c =
           ∙ order-inverse _ _ _ (turn .before .before .inverse .ensures),
     )
 
-cast-at : tie.Need-cast-at Inv-loop2 μ-loop2 Inv-loop μ-loop
-cast-at c = search needs
-
-array-write-at : tie.Need-array-write-at Inv-loop2 μ-loop2 Inv-loop μ-loop
-array-write-at c = search needs
-
-without-requires : tie.Need-without-requires Inv-loop2 μ-loop2 Inv-loop μ-loop
-without-requires c κs = search needs
-
-add-n : tie.Need-add-n Inv-loop2 μ-loop2 Inv-loop μ-loop
-add-n c = search needs
-
-loop-less : tie.Need-loop-less Inv-loop2 μ-loop2 Inv-loop μ-loop
-loop-less c = search needs
-
 loop-again : tie.Need-loop-again Inv-loop2 μ-loop2 Inv-loop μ-loop
 loop-again c =
     let turn = c .before .before .before .before .before in (
@@ -123,23 +84,23 @@ order-spec =
     μ-loop2
     Inv-loop
     μ-loop
-    inverse-requires
+    (λ c κs. search needs)
     loop-holds
-    first-requires
+    (λ c κs. search needs)
     loop2-holds
-    mul-p
-    array-copy-out-p
-    and-requires
-    first-requires-2
-    add-next
-    next-requires
+    (λ c. search needs)
+    (λ c. search needs)
+    (λ c κs. search needs)
+    (λ c κs. search needs)
+    (λ c. search needs)
+    (λ c κs. search needs)
     loop2-less
     loop2-again
     returns
-    cast-at
-    array-write-at
-    without-requires
-    add-n
-    loop-less
+    (λ c. search needs)
+    (λ c. search needs)
+    (λ c κs. search needs)
+    (λ c. search needs)
+    (λ c. search needs)
     loop-again
     returns-2)

@@ -16,32 +16,8 @@ Inv-loop g s h₀ x₀ k₀ h x k = (k ≤ 64) × Rows (reached (edge g) s) none
 abbrev μ-loop : tie.MeasureT-loop
 μ-loop g s h₀ x₀ k₀ h x k = 64 - k
 
-empty-requires : tie.Need-empty-requires Inv-loop μ-loop
-empty-requires c κs = search needs
-
-none-requires : tie.Need-none-requires Inv-loop μ-loop
-none-requires c κs = search needs
-
-with-requires : tie.Need-with-requires Inv-loop μ-loop
-with-requires c κs = search needs
-
 loop-holds : tie.Need-loop-holds Inv-loop μ-loop
 loop-holds c = (search needs, rows-none-of _ _ _ (search needs) (c .before .before .empty .ensures), power-zero _ _ _ _ (c .before .before .before .pre) (c .before .none .ensures) (c .with .ensures))
-
-mul-h : tie.Need-mul-h Inv-loop μ-loop
-mul-h c = search needs
-
-array-set-from-h : tie.Need-array-set-from-h Inv-loop μ-loop
-array-set-from-h c = search needs
-
-image-requires : tie.Need-image-requires Inv-loop μ-loop
-image-requires c κs = search needs
-
-add-k : tie.Need-add-k Inv-loop μ-loop
-add-k c = search needs
-
-loop-less : tie.Need-loop-less Inv-loop μ-loop
-loop-less c = search needs
 
 loop-again : tie.Need-loop-again Inv-loop μ-loop
 loop-again c =
@@ -58,14 +34,14 @@ levels-spec =
     (tie.spec
     Inv-loop
     μ-loop
-    empty-requires
-    none-requires
-    with-requires
+    (λ c κs. search needs)
+    (λ c κs. search needs)
+    (λ c κs. search needs)
     loop-holds
-    mul-h
-    array-set-from-h
-    image-requires
-    add-k
-    loop-less
+    (λ c. search needs)
+    (λ c. search needs)
+    (λ c κs. search needs)
+    (λ c. search needs)
+    (λ c. search needs)
     loop-again
     returns)

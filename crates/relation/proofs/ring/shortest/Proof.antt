@@ -18,23 +18,8 @@ Inv-loop g back p₀ n₀ p n = (n ≤ 64) × (edge p ≡ power n (edge g)) × (
 abbrev μ-loop : tie.MeasureT-loop
 μ-loop g back p₀ n₀ p n = 64 - n
 
-inverse-requires : tie.Need-inverse-requires Inv-loop μ-loop
-inverse-requires c κs = search needs
-
-all-requires : tie.Need-all-requires Inv-loop μ-loop
-all-requires c κs = search needs
-
-identity-requires : tie.Need-identity-requires Inv-loop μ-loop
-identity-requires c κs = search needs
-
 loop-holds : tie.Need-loop-holds Inv-loop μ-loop
 loop-holds c = (search needs, power-identity _ _ _ (c .before .all .ensures) (c .identity .ensures), below-none _)
-
-returning-requires : tie.Need-returning-requires Inv-loop μ-loop
-returning-requires c κs = search needs
-
-first-requires : tie.Need-first-requires Inv-loop μ-loop
-first-requires c κs = search needs
 
 returns : tie.Need-returns Inv-loop μ-loop
 returns c =
@@ -42,15 +27,6 @@ returns c =
     let inv = turn .before .loop .inv in
     shortest-by _ _ _ _ _ (turn .before .before .before .before .inverse .ensures)
     (round-found _ _ _ _ _ _ (inv .1) (c .before .before .returning .ensures) (c .before .first .ensures) (turn .loop-test .taken) (c .if1 .taken) (inv .2))
-
-then-requires : tie.Need-then-requires Inv-loop μ-loop
-then-requires c κs = search needs
-
-add-n : tie.Need-add-n Inv-loop μ-loop
-add-n c = search needs
-
-loop-less : tie.Need-loop-less Inv-loop μ-loop
-loop-less c = search needs
 
 loop-again : tie.Need-loop-again Inv-loop μ-loop
 loop-again c =
@@ -74,15 +50,15 @@ shortest-spec =
     (tie.spec
     Inv-loop
     μ-loop
-    inverse-requires
-    all-requires
-    identity-requires
+    (λ c κs. search needs)
+    (λ c κs. search needs)
+    (λ c κs. search needs)
     loop-holds
-    returning-requires
-    first-requires
+    (λ c κs. search needs)
+    (λ c κs. search needs)
     returns
-    then-requires
-    add-n
-    loop-less
+    (λ c κs. search needs)
+    (λ c. search needs)
+    (λ c. search needs)
     loop-again
     returns-2)

@@ -13,28 +13,13 @@ Inv-loop len at m out₀ k₀ out k = (k ≤ len) × (len ≤ 64) × SmallestAt 
 abbrev μ-loop : tie.MeasureT-loop
 μ-loop len at m out₀ k₀ out k = len - k
 
-smallest-at-requires : tie.Need-smallest-at-requires Inv-loop μ-loop
-smallest-at-requires c κs = search needs
-
 loop-holds : tie.Need-loop-holds Inv-loop μ-loop
 loop-holds c = (search needs, search needs, c .smallest-at .ensures, turning-none _ _ _ _ (search needs))
-
-turned-to-requires : tie.Need-turned-to-requires Inv-loop μ-loop
-turned-to-requires c κs = search needs
 
 array-read-out : tie.Need-array-read-out Inv-loop μ-loop
 array-read-out c =
     let inv = c .before .before .loop .inv in
     omega (arith, c .turned-to .ensures, turned-inside _ _ _ (c .before .loop-test .taken) (inv .2 .inside))
-
-array-write-out : tie.Need-array-write-out Inv-loop μ-loop
-array-write-out c = search needs
-
-add-k : tie.Need-add-k Inv-loop μ-loop
-add-k c = search needs
-
-loop-less : tie.Need-loop-less Inv-loop μ-loop
-loop-less c = search needs
 
 loop-again : tie.Need-loop-again Inv-loop μ-loop
 loop-again c =
@@ -50,12 +35,12 @@ turned-spec =
     (tie.spec
     Inv-loop
     μ-loop
-    smallest-at-requires
+    (λ c κs. search needs)
     loop-holds
-    turned-to-requires
+    (λ c κs. search needs)
     array-read-out
-    array-write-out
-    add-k
-    loop-less
+    (λ c. search needs)
+    (λ c. search needs)
+    (λ c. search needs)
     loop-again
     returns)

@@ -18,27 +18,6 @@ last c =
     closing-pick _ _ _ _ _ _ _ (pre .1) (made .levels .ensures) (pre .2)
     (c .before .and .ensures ∙ ap (intersection _) (c .before .before .column .ensures)) (c .first .ensures)
 
-levels-requires : tie.Need-levels-requires
-levels-requires c κs = search needs
-
-mul-l : tie.Need-mul-l
-mul-l c = search needs
-
-array-copy-out-l : tie.Need-array-copy-out-l
-array-copy-out-l c = search needs
-
-column-requires : tie.Need-column-requires
-column-requires c κs = search needs
-
-and-requires : tie.Need-and-requires
-and-requires c κs = search needs
-
-first-requires : tie.Need-first-requires
-first-requires c κs = search needs
-
-inverse-requires : tie.Need-inverse-requires
-inverse-requires c κs = search needs
-
 steps-back-requires : tie.Need-steps-back-requires
 steps-back-requires c κs =
     let made = c .before .before .before .before .before in
@@ -54,12 +33,12 @@ pub way-spec : {M : Type 1} → statement M
 way-spec =
     tie.close
     (tie.spec
-    levels-requires
-    mul-l
-    array-copy-out-l
-    column-requires
-    and-requires
-    first-requires
-    inverse-requires
+    (λ c κs. search needs)
+    (λ c. search needs)
+    (λ c. search needs)
+    (λ c κs. search needs)
+    (λ c κs. search needs)
+    (λ c κs. search needs)
+    (λ c κs. search needs)
     steps-back-requires
     returns)

@@ -9,9 +9,6 @@ use Rattle.translation.proofs.event.after.Tie as tie
 events-requires : tie.Need-events-requires
 events-requires c κs = sized _ (c .before .pre .0)
 
-fenced-requires : tie.Need-fenced-requires
-fenced-requires c κs = search needs
-
 event-byte-requires : tie.Need-event-byte-requires
 event-byte-requires c κs =
     let start = c .before .before .before .before in
@@ -25,9 +22,6 @@ returns c =
 
 is-flagged-requires : tie.Need-is-flagged-requires
 is-flagged-requires c κs = sized _ (c .before .before .before .pre .0)
-
-inserted-requires : tie.Need-inserted-requires
-inserted-requires c κs = search needs
 
 returns-2 : tie.Need-returns-2
 returns-2 c =
@@ -50,11 +44,11 @@ after-spec =
     tie.close
     (tie.spec
     events-requires
-    fenced-requires
+    (λ c κs. search needs)
     event-byte-requires
     returns
     is-flagged-requires
-    inserted-requires
+    (λ c κs. search needs)
     returns-2
     event-byte-requires-2
     returns-3)

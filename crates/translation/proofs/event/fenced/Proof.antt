@@ -20,12 +20,6 @@ is-fence-of-requires c κs = (c .before .loop .inv .1 .source, search needs)
 returns : tie.Need-returns Inv-loop μ-loop
 returns c = passed-here _ _ _ _ (c .before .is-fence-of .ensures) (c .if1 .taken) (c .before .before .loop-test .taken) (c .before .before .before .loop .inv .1)
 
-add-w : tie.Need-add-w Inv-loop μ-loop
-add-w c = search needs
-
-loop-less : tie.Need-loop-less Inv-loop μ-loop
-loop-less c = search needs
-
 loop-again : tie.Need-loop-again Inv-loop μ-loop
 loop-again c = (search needs, passed-more _ _ _ _ (c .before .is-fence-of .ensures) (c .if1 .left) (c .before .before .before .loop .inv .1))
 
@@ -41,7 +35,7 @@ fenced-spec =
     loop-holds
     is-fence-of-requires
     returns
-    add-w
-    loop-less
+    (λ c. search needs)
+    (λ c. search needs)
     loop-again
     returns-2)

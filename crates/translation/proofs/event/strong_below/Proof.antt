@@ -23,12 +23,6 @@ is-flagged-requires c κs = sized _ (c .before .loop .inv .2 .source)
 add-n : tie.Need-add-n Inv-loop μ-loop
 add-n c = (let inv = c .before .before .before .loop .inv in omega (arith, inv .2 .most))
 
-add-w : tie.Need-add-w Inv-loop μ-loop
-add-w c = search needs
-
-loop-less : tie.Need-loop-less Inv-loop μ-loop
-loop-less c = search needs
-
 loop-again : tie.Need-loop-again Inv-loop μ-loop
 loop-again c =
     let turn = c .before .before in
@@ -51,7 +45,7 @@ strong-below-spec =
     loop-holds
     is-flagged-requires
     add-n
-    add-w
-    loop-less
+    (λ c. search needs)
+    (λ c. search needs)
     loop-again
     returns)

@@ -15,9 +15,6 @@ sources-of-requires c κs = readable _ (c .before .before .pre .0)
 sources-of-requires-2 : tie.Need-sources-of-requires-2
 sources-of-requires-2 c κs = readable _ (c .before .before .before .pre .0)
 
-and-requires : tie.Need-and-requires
-and-requires c κs = search needs
-
 has-requires : tie.Need-has-requires
 has-requires c κs = (let start = c .before .before .before .before .before in omega (arith, limits _ (start .pre .0), start .pre .2))
 
@@ -52,7 +49,7 @@ controlled-spec =
     event-byte-requires
     sources-of-requires
     sources-of-requires-2
-    and-requires
+    (λ c κs. search needs)
     has-requires
     after-requires
     returns

@@ -10,24 +10,6 @@ links-requires c κs = readable _ (c .before .pre)
 links-requires-2 : tie.Need-links-requires-2
 links-requires-2 c κs = readable _ (c .before .before .pre)
 
-target-rows-requires : tie.Need-target-rows-requires
-target-rows-requires c κs = search needs
-
-then-requires : tie.Need-then-requires
-then-requires c κs = search needs
-
-target-rows-requires-2 : tie.Need-target-rows-requires-2
-target-rows-requires-2 c κs = search needs
-
-or-requires : tie.Need-or-requires
-or-requires c κs = search needs
-
-or-requires-2 : tie.Need-or-requires-2
-or-requires-2 c κs = search needs
-
-inverse-requires : tie.Need-inverse-requires
-inverse-requires c κs = search needs
-
 returns : tie.Need-returns
 returns c =
     let steps = c .before .before .before .before .before in
@@ -41,10 +23,10 @@ ctrl-spec =
     (tie.spec
     links-requires
     links-requires-2
-    target-rows-requires
-    then-requires
-    target-rows-requires-2
-    or-requires
-    or-requires-2
-    inverse-requires
+    (λ c κs. search needs)
+    (λ c κs. search needs)
+    (λ c κs. search needs)
+    (λ c κs. search needs)
+    (λ c κs. search needs)
+    (λ c κs. search needs)
     returns)

@@ -30,9 +30,6 @@ array-write-at c = (let inv = c .before .before .loop .inv in omega (arith, c .b
 add-b : tie.Need-add-b Inv-loop μ-loop
 add-b c = (let inv = c .before .before .loop .inv in omega (arith, c .before .loop-test .taken, inv .1 .counted .events, most-events _ (inv .2 .source)))
 
-loop-less : tie.Need-loop-less Inv-loop μ-loop
-loop-less c = search needs
-
 loop-again : tie.Need-loop-again Inv-loop μ-loop
 loop-again c = (let inv = c .before .before .loop .inv in (search needs, ending-more _ _ _ _ _ _ (inv .1) (omega (arith, c .before .loop-test .taken, inv .1 .counted .events, most-events _ (inv .2 .source))) (c .links-up-to .ensures .0), inv .2))
 
@@ -50,6 +47,6 @@ ends-spec =
     cast-at
     array-write-at
     add-b
-    loop-less
+    (λ c. search needs)
     loop-again
     returns)

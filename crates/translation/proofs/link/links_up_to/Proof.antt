@@ -20,23 +20,8 @@ rows-requires c κs = (c .before .pre .0, c .before .pre .1)
 loop-holds : tie.Need-loop-holds Inv-loop μ-loop
 loop-holds c = (let pre = c .before .before .pre in (search needs, links-start _ _ (pre .0 .source) _ (pre .2), c .rows .ensures))
 
-mul-size : tie.Need-mul-size Inv-loop μ-loop
-mul-size c = search needs
-
-array-copy-out-size : tie.Need-array-copy-out-size Inv-loop μ-loop
-array-copy-out-size c = search needs
-
-size-requires : tie.Need-size-requires Inv-loop μ-loop
-size-requires c κs = search needs
-
 add-m : tie.Need-add-m Inv-loop μ-loop
 add-m c = (let turn = c .before .before in let inv = turn .before .loop .inv in let more = links-more _ _ _ _ _ _ (inv .1) (turn .loop-test .taken) (inv .2 .row _ (turn .loop-test .taken)) (c .size .ensures) in omega (arith, links-few _ _ _ _ more (omega (arith, turn .loop-test .taken))))
-
-add-t : tie.Need-add-t Inv-loop μ-loop
-add-t c = search needs
-
-loop-less : tie.Need-loop-less Inv-loop μ-loop
-loop-less c = search needs
 
 loop-again : tie.Need-loop-again Inv-loop μ-loop
 loop-again c = (let turn = c .before .before in let inv = turn .before .loop .inv in (search needs, links-more _ _ _ _ _ _ (inv .1) (turn .loop-test .taken) (inv .2 .row _ (turn .loop-test .taken)) (c .size .ensures), inv .2))
@@ -52,11 +37,11 @@ links-up-to-spec =
     μ-loop
     rows-requires
     loop-holds
-    mul-size
-    array-copy-out-size
-    size-requires
+    (λ c. search needs)
+    (λ c. search needs)
+    (λ c κs. search needs)
     add-m
-    add-t
-    loop-less
+    (λ c. search needs)
+    (λ c. search needs)
     loop-again
     returns)

@@ -9,23 +9,8 @@ use Rattle.translation.proofs.link.rows.Tie as tie
 sources-by-type-requires : tie.Need-sources-by-type-requires
 sources-by-type-requires c κs = readable _ (c .before .pre .0 .source)
 
-none-requires : tie.Need-none-requires
-none-requires c κs = search needs
-
-array-set-from-h : tie.Need-array-set-from-h
-array-set-from-h c = search needs
-
 row-of-requires : tie.Need-row-of-requires
 row-of-requires c κs = (let start = c .before .before .before in omega (arith, most-events _ (start .pre .0 .source), start .pre .1 .high))
-
-array-set-from-h-2 : tie.Need-array-set-from-h-2
-array-set-from-h-2 c = search needs
-
-none-requires-2 : tie.Need-none-requires-2
-none-requires-2 c κs = search needs
-
-array-set-from-h-3 : tie.Need-array-set-from-h-3
-array-set-from-h-3 c = search needs
 
 returns : tie.Need-returns
 returns c = (let start = c .before .before .before .before .before in rows-into _ (start .pre .0 .source) _ _ _ _ _ _ (start .pre .1) (c .before .before .before .sources-by-type .ensures) (start .pre .0 .grid) (c .before .before .none .ensures) (c .before .row-of .ensures) (c .none2 .ensures))
@@ -35,10 +20,10 @@ rows-spec =
     tie.close
     (tie.spec
     sources-by-type-requires
-    none-requires
-    array-set-from-h
+    (λ c κs. search needs)
+    (λ c. search needs)
     row-of-requires
-    array-set-from-h-2
-    none-requires-2
-    array-set-from-h-3
+    (λ c. search needs)
+    (λ c κs. search needs)
+    (λ c. search needs)
     returns)

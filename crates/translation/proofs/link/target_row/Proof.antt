@@ -11,25 +11,16 @@ use Rattle.translation.proofs.link.target_row.Tie as tie
 is-flagged-requires : tie.Need-is-flagged-requires
 is-flagged-requires c κs = sized _ (c .before .before .pre)
 
-none-requires : tie.Need-none-requires
-none-requires c κs = search needs
-
 returns : tie.Need-returns
 returns c =
     let start = c .before .before .before .before .before in
     exclusive-none _ (start .pre) _ _ _ _ (c .before .before .is-flagged .ensures) (not-true _ (c .before .if2 .taken)) (c .none .ensures) (c .before .before .before .if1 .taken)
-
-none-requires-2 : tie.Need-none-requires-2
-none-requires-2 c κs = search needs
 
 controlled-requires : tie.Need-controlled-requires
 controlled-requires c κs =
     let start = c .before .before .before .before .before in
     let within = exclusive-old _ (start .pre) _ _ (c .before .before .is-flagged .ensures) (not-false _ (c .before .if2 .left)) in
     (start .pre, within .0, within .1)
-
-with-requires : tie.Need-with-requires
-with-requires c κs = search needs
 
 returns-2 : tie.Need-returns-2
 returns-2 c =
@@ -40,25 +31,16 @@ returns-2 c =
 is-recorded-requires : tie.Need-is-recorded-requires
 is-recorded-requires c κs = sized _ (c .before .before .pre)
 
-none-requires-3 : tie.Need-none-requires-3
-none-requires-3 c κs = search needs
-
 returns-3 : tie.Need-returns-3
 returns-3 c =
     let start = c .before .before .before .before .before in
     after-none _ (start .pre) _ _ _ _ (c .before .before .is-recorded .ensures) (not-true _ (c .before .if3 .taken)) (c .none3 .ensures) (c .before .before .before .if1 .left)
-
-none-requires-4 : tie.Need-none-requires-4
-none-requires-4 c κs = search needs
 
 after-requires : tie.Need-after-requires
 after-requires c κs =
     let start = c .before .before .before .before .before in
     let within = recorded-bounds _ _ (sym (c .before .before .is-recorded .ensures) ∙ not-false _ (c .before .if3 .left)) in
     (start .pre, old-new _ (start .pre) _ (within .0) (within .1))
-
-with-requires-2 : tie.Need-with-requires-2
-with-requires-2 c κs = search needs
 
 returns-4 : tie.Need-returns-4
 returns-4 c =
@@ -71,16 +53,16 @@ target-row-spec =
     tie.close
     (tie.spec
     is-flagged-requires
-    none-requires
+    (λ c κs. search needs)
     returns
-    none-requires-2
+    (λ c κs. search needs)
     controlled-requires
-    with-requires
+    (λ c κs. search needs)
     returns-2
     is-recorded-requires
-    none-requires-3
+    (λ c κs. search needs)
     returns-3
-    none-requires-4
+    (λ c κs. search needs)
     after-requires
-    with-requires-2
+    (λ c κs. search needs)
     returns-4)

@@ -15,26 +15,11 @@ Inv-loop file exclusive h₀ e₀ h e = (e ≤ 64) × Source file × Rows (targe
 abbrev μ-loop : tie.MeasureT-loop
 μ-loop file exclusive h₀ e₀ h e = 64 - e
 
-empty-requires : tie.Need-empty-requires Inv-loop μ-loop
-empty-requires c κs = search needs
-
 loop-holds : tie.Need-loop-holds Inv-loop μ-loop
 loop-holds c = (search needs, c .before .before .pre, rows-none-of _ _ _ (search needs) (c .empty .ensures))
 
 target-row-requires : tie.Need-target-row-requires Inv-loop μ-loop
 target-row-requires c κs = c .before .loop .inv .1
-
-mul-h : tie.Need-mul-h Inv-loop μ-loop
-mul-h c = search needs
-
-array-set-from-h : tie.Need-array-set-from-h Inv-loop μ-loop
-array-set-from-h c = search needs
-
-add-e : tie.Need-add-e Inv-loop μ-loop
-add-e c = search needs
-
-loop-less : tie.Need-loop-less Inv-loop μ-loop
-loop-less c = search needs
 
 loop-again : tie.Need-loop-again Inv-loop μ-loop
 loop-again c =
@@ -51,12 +36,12 @@ target-rows-spec =
     (tie.spec
     Inv-loop
     μ-loop
-    empty-requires
+    (λ c κs. search needs)
     loop-holds
     target-row-requires
-    mul-h
-    array-set-from-h
-    add-e
-    loop-less
+    (λ c. search needs)
+    (λ c. search needs)
+    (λ c. search needs)
+    (λ c. search needs)
     loop-again
     returns)

@@ -25,12 +25,6 @@ loop-holds c = (let pre = c .before .before .pre in (search needs, written-none 
 array-read-last : tie.Need-array-read-last Inv-loop μ-loop
 array-read-last c = (let turn = c in let inv = turn .before .loop .inv .1 .counted in omega (arith, turn .loop-test .taken, inv .events, most-events _ (inv .source)))
 
-cast-last : tie.Need-cast-last Inv-loop μ-loop
-cast-last c = search needs
-
-chained-requires : tie.Need-chained-requires Inv-loop μ-loop
-chained-requires c κs = search needs
-
 event-record-requires : tie.Need-event-record-requires Inv-loop μ-loop
 event-record-requires c κs =
     let turn = c .before in
@@ -42,9 +36,6 @@ event-record-requires c κs =
 mul-put : tie.Need-mul-put Inv-loop μ-loop
 mul-put c = (let turn = c .before .before .before in let inv = turn .before .loop .inv .1 .counted in omega (arith, turn .loop-test .taken, inv .events, most-events _ (inv .source)))
 
-slice-aggregate-put : tie.Need-slice-aggregate-put Inv-loop μ-loop
-slice-aggregate-put c = search needs
-
 put-requires : tie.Need-put-requires Inv-loop μ-loop
 put-requires c κs =
     let turn = c .before .before .before .before in
@@ -54,9 +45,6 @@ put-requires c κs =
 
 add-e : tie.Need-add-e Inv-loop μ-loop
 add-e c = (let turn = c .before .before .before .before .before .before .before in let inv = turn .before .loop .inv .1 .counted in omega (arith, turn .loop-test .taken, inv .events, most-events _ (inv .source)))
-
-loop-less : tie.Need-loop-less Inv-loop μ-loop
-loop-less c = search needs
 
 loop-again : tie.Need-loop-again Inv-loop μ-loop
 loop-again c =
@@ -78,14 +66,14 @@ write-events-spec =
     μ-loop
     loop-holds
     array-read-last
-    cast-last
-    chained-requires
+    (λ c. search needs)
+    (λ c κs. search needs)
     event-record-requires
     mul-put
-    slice-aggregate-put
+    (λ c. search needs)
     put-requires
     add-e
-    loop-less
+    (λ c. search needs)
     loop-again
     same-length
     returns)

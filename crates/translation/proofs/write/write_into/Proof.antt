@@ -20,20 +20,8 @@ rows-requires c κs = (c .before .before .pre .1, c .before .before .pre .2)
 loop-holds : tie.Need-loop-holds Inv-loop μ-loop
 loop-holds c = (let pre = c .before .before .before .pre in (search needs, into-none _ _ _ _ _ (pre .1 .source) (pre .3) (pre .4) (pre .0), c .rows .ensures))
 
-mul-write-row : tie.Need-mul-write-row Inv-loop μ-loop
-mul-write-row c = search needs
-
-array-copy-out-write-row : tie.Need-array-copy-out-write-row Inv-loop μ-loop
-array-copy-out-write-row c = search needs
-
 write-row-requires : tie.Need-write-row-requires Inv-loop μ-loop
 write-row-requires c κs = (let turn = c .before .before in let inv = turn .before .loop .inv in let room = into-room _ _ _ _ _ _ _ _ _ (inv .1) (turn .loop-test .taken) (inv .2 .row _ (turn .loop-test .taken)) in (turn .loop-test .taken, room .0, room .1, room .2))
-
-add-t : tie.Need-add-t Inv-loop μ-loop
-add-t c = search needs
-
-loop-less : tie.Need-loop-less Inv-loop μ-loop
-loop-less c = search needs
 
 loop-again : tie.Need-loop-again Inv-loop μ-loop
 loop-again c =
@@ -56,11 +44,11 @@ write-into-spec =
     μ-loop
     rows-requires
     loop-holds
-    mul-write-row
-    array-copy-out-write-row
+    (λ c. search needs)
+    (λ c. search needs)
     write-row-requires
-    add-t
-    loop-less
+    (λ c. search needs)
+    (λ c. search needs)
     loop-again
     same-length
     returns)

@@ -22,9 +22,6 @@ loop-holds c = (let pre = c .before .before .pre in (search needs, links-none _ 
 array-read-write-into : tie.Need-array-read-write-into Inv-loop μ-loop
 array-read-write-into c = (let turn = c .before in let inv = turn .before .loop .inv .1 .counted in omega (arith, turn .loop-test .taken, inv .events, most-events _ (inv .source)))
 
-cast-write-into : tie.Need-cast-write-into Inv-loop μ-loop
-cast-write-into c = search needs
-
 write-into-requires : tie.Need-write-into-requires Inv-loop μ-loop
 write-into-requires c κs =
     let turn = c .before in
@@ -34,9 +31,6 @@ write-into-requires c κs =
 
 add-b : tie.Need-add-b Inv-loop μ-loop
 add-b c = (let turn = c .before .before .before .before in let inv = turn .before .loop .inv .1 .counted in omega (arith, turn .loop-test .taken, inv .events, most-events _ (inv .source)))
-
-loop-less : tie.Need-loop-less Inv-loop μ-loop
-loop-less c = search needs
 
 loop-again : tie.Need-loop-again Inv-loop μ-loop
 loop-again c =
@@ -59,10 +53,10 @@ write-links-spec =
     μ-loop
     loop-holds
     array-read-write-into
-    cast-write-into
+    (λ c. search needs)
     write-into-requires
     add-b
-    loop-less
+    (λ c. search needs)
     loop-again
     same-length
     returns)

@@ -14,17 +14,11 @@ Inv-loop part₀ row t last n m₀ a₀ part m a = RowAt part₀ (bit row) t las
 abbrev μ-loop : tie.MeasureT-loop
 μ-loop part₀ row t last n m₀ a₀ part m a = 64 - a
 
-first-requires : tie.Need-first-requires Inv-loop μ-loop
-first-requires c κs = search needs
-
 loop-holds : tie.Need-loop-holds Inv-loop μ-loop
 loop-holds c = (let pre = c .before .before .pre in row-first _ _ _ _ _ (pre .0) (pre .1) (pre .2) (pre .3) _ (c .first .ensures))
 
 add-chained : tie.Need-add-chained Inv-loop μ-loop
 add-chained c = (let turn = c in let w = turn .before .loop .inv in let room = row-room _ _ _ _ _ _ _ _ (w .written) (turn .loop-test .taken) (w .member (turn .loop-test .taken)) in omega (arith, room .1))
-
-chained-requires : tie.Need-chained-requires Inv-loop μ-loop
-chained-requires c κs = search needs
 
 cast-t12 : tie.Need-cast-t12 Inv-loop μ-loop
 cast-t12 c = (let w = c .before .before .loop .inv .written in omega (arith, c .chained .ensures .1, w .last-small))
@@ -71,10 +65,10 @@ write-row-spec =
     (tie.spec
     Inv-loop
     μ-loop
-    first-requires
+    (λ c κs. search needs)
     loop-holds
     add-chained
-    chained-requires
+    (λ c κs. search needs)
     cast-t12
     cast-t13
     cast-t14

@@ -24,50 +24,11 @@ Inv-pairs writes loc settled a₀ b₀ a b = Passing (bit writes) (edge loc) (ed
 abbrev μ-pairs : tie.MeasureT-pairs
 μ-pairs writes loc settled a₀ b₀ a b = 64 - a
 
-inverse-requires : tie.Need-inverse-requires Inv-loop μ-loop Inv-pairs μ-pairs
-inverse-requires c κs = search needs
-
-or-requires : tie.Need-or-requires Inv-loop μ-loop Inv-pairs μ-pairs
-or-requires c κs = search needs
-
-optional-requires : tie.Need-optional-requires Inv-loop μ-loop Inv-pairs μ-pairs
-optional-requires c κs = search needs
-
-first-requires : tie.Need-first-requires Inv-loop μ-loop Inv-pairs μ-pairs
-first-requires c κs = search needs
-
 pairs-holds : tie.Need-pairs-holds Inv-loop μ-loop Inv-pairs μ-pairs
 pairs-holds c = pairs-first _ _ _ _ (c .first .ensures)
 
-mul-and : tie.Need-mul-and Inv-loop μ-loop Inv-pairs μ-pairs
-mul-and c = search needs
-
-array-copy-out-and : tie.Need-array-copy-out-and Inv-loop μ-loop Inv-pairs μ-pairs
-array-copy-out-and c = search needs
-
-and-requires : tie.Need-and-requires Inv-loop μ-loop Inv-pairs μ-pairs
-and-requires c κs = search needs
-
-mul-ordered : tie.Need-mul-ordered Inv-loop μ-loop Inv-pairs μ-pairs
-mul-ordered c = search needs
-
-array-copy-out-ordered : tie.Need-array-copy-out-ordered Inv-loop μ-loop Inv-pairs μ-pairs
-array-copy-out-ordered c = search needs
-
-first-requires-2 : tie.Need-first-requires-2 Inv-loop μ-loop Inv-pairs μ-pairs
-first-requires-2 c κs = search needs
-
 loop-holds : tie.Need-loop-holds Inv-loop μ-loop Inv-pairs μ-pairs
 loop-holds c = seeking-first _ _ (no-peer _ _) _ (c .first2 .ensures)
-
-has-requires : tie.Need-has-requires Inv-loop μ-loop Inv-pairs μ-pairs
-has-requires c κs = search needs
-
-add-next : tie.Need-add-next Inv-loop μ-loop Inv-pairs μ-pairs
-add-next c = search needs
-
-next-requires : tie.Need-next-requires Inv-loop μ-loop Inv-pairs μ-pairs
-next-requires c κs = search needs
 
 loop-less : tie.Need-loop-less Inv-loop μ-loop Inv-pairs μ-pairs
 loop-less c = omega (arith, c .next .ensures .low, c .before .before .before .loop-test .taken)
@@ -77,12 +38,6 @@ loop-again c =
     let turn = c .before .before .before in
     seeking-next _ _ (no-peer _ _) _ (turn .before .loop .inv)
     (ordered-peer _ _ _ (sym (c .before .before .has .ensures) ∙ not-false _ (c .before .if1 .left))) _ (c .next .ensures)
-
-add-next-2 : tie.Need-add-next-2 Inv-loop μ-loop Inv-pairs μ-pairs
-add-next-2 c = search needs
-
-next-requires-2 : tie.Need-next-requires-2 Inv-loop μ-loop Inv-pairs μ-pairs
-next-requires-2 c κs = search needs
 
 pairs-less : tie.Need-pairs-less Inv-loop μ-loop Inv-pairs μ-pairs
 pairs-less c = omega (arith, c .next2 .ensures .low, c .before .before .before .before .before .before .before .pairs-test .taken)
@@ -123,25 +78,25 @@ unordered-spec =
     μ-loop
     Inv-pairs
     μ-pairs
-    inverse-requires
-    or-requires
-    optional-requires
-    first-requires
+    (λ c κs. search needs)
+    (λ c κs. search needs)
+    (λ c κs. search needs)
+    (λ c κs. search needs)
     pairs-holds
-    mul-and
-    array-copy-out-and
-    and-requires
-    mul-ordered
-    array-copy-out-ordered
-    first-requires-2
+    (λ c. search needs)
+    (λ c. search needs)
+    (λ c κs. search needs)
+    (λ c. search needs)
+    (λ c. search needs)
+    (λ c κs. search needs)
     loop-holds
-    has-requires
-    add-next
-    next-requires
+    (λ c κs. search needs)
+    (λ c. search needs)
+    (λ c κs. search needs)
     loop-less
     loop-again
-    add-next-2
-    next-requires-2
+    (λ c. search needs)
+    (λ c κs. search needs)
     pairs-less
     pairs-again
     returns

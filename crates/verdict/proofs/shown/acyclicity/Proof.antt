@@ -16,18 +16,6 @@ returning : (c : tie.After-first) (r : Rel) → edge (c .before .before .before 
 returning c r p =
     c .before .diagonal .ensures ∙ ap diagonal (c .before .before .closure .ensures ∙ ap (plus nodes) p)
 
-closure-requires : tie.Need-closure-requires
-closure-requires c κs = search needs
-
-diagonal-requires : tie.Need-diagonal-requires
-diagonal-requires c κs = search needs
-
-first-requires : tie.Need-first-requires
-first-requires c κs = search needs
-
-broken-ring-requires : tie.Need-broken-ring-requires
-broken-ring-requires c κs = search needs
-
 inside : (c : tie.Start) → Inside (edge (c .args .before))
 inside c = edge-inside _ (search needs)
 
@@ -37,9 +25,6 @@ returns c =
     let found = c .broken-ring .ensures in
     shown-5 M B s e _ hold (subst Inside p (inside (test .before .before .before))) (event-found _ _ _ (test .first .ensures) (returning test _ p) (c .before .if1 .taken))
     (found .0) (found .1 .0) (ring-same _ _ _ _ _ p p (found .1 .1))
-
-allowed-requires : tie.Need-allowed-requires
-allowed-requires c κs = search needs
 
 returns-2 : tie.Need-returns-2
 returns-2 c =
@@ -51,10 +36,10 @@ pub acyclicity-spec : {M : Type 1} → statement M
 acyclicity-spec =
     tie.close
     (tie.spec
-    closure-requires
-    diagonal-requires
-    first-requires
-    broken-ring-requires
+    (λ c κs. search needs)
+    (λ c κs. search needs)
+    (λ c κs. search needs)
+    (λ c κs. search needs)
     returns
-    allowed-requires
+    (λ c κs. search needs)
     returns-2)

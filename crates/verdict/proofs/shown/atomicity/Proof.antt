@@ -4,12 +4,6 @@ use borrow.Author.Needs.{needs}
 use Rattle.verdict.proofs.shown.atomicity.Statement.{statement}
 use Rattle.verdict.proofs.shown.atomicity.Tie as tie
 
-broken-pairs-requires : tie.Need-broken-pairs-requires
-broken-pairs-requires c κs = search needs
-
-first-pair-requires : tie.Need-first-pair-requires
-first-pair-requires c κs = search needs
-
 broken-pair-requires : tie.Need-broken-pair-requires
 broken-pair-requires c κs = pair-bounds _ _ _ (c .before .before .first-pair .ensures) (c .if1 .taken)
 
@@ -18,9 +12,6 @@ returns c =
     λ M B s e hold p q r. let pair = c .before .before .before in
     let first = pair-same _ _ _ _ (pair .before .broken-pairs .ensures B p q r) (pair .first-pair .ensures) in
     tried-4 M B s e _ hold _ _ first (c .before .if1 .taken) (c .broken-pair .ensures)
-
-unbroken-requires : tie.Need-unbroken-requires
-unbroken-requires c κs = search needs
 
 returns-2 : tie.Need-returns-2
 returns-2 c =
@@ -32,9 +23,9 @@ pub atomicity-spec : {M : Type 1} → statement M
 atomicity-spec =
     tie.close
     (tie.spec
-    broken-pairs-requires
-    first-pair-requires
+    (λ c κs. search needs)
+    (λ c κs. search needs)
     broken-pair-requires
     returns
-    unbroken-requires
+    (λ c κs. search needs)
     returns-2)

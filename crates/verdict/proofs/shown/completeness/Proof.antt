@@ -37,38 +37,11 @@ unordered-is c = c .unordered .ensures (base (from-unordered c)) refl refl refl
 holds-2 : (c : tie.Else2) → anywhere nodes (unordered nodes (base (from-unordered (c .before .before)))) ≡ false
 holds-2 c = pair-none _ _ _ (unordered-is (c .before .before)) (c .if2 .left)
 
-array-copy-out-unread : tie.Need-array-copy-out-unread
-array-copy-out-unread c = search needs
-
-array-copy-out-unread-2 : tie.Need-array-copy-out-unread-2
-array-copy-out-unread-2 c = search needs
-
-unread-requires : tie.Need-unread-requires
-unread-requires c κs = search needs
-
-first-requires : tie.Need-first-requires
-first-requires c κs = search needs
-
-broken-event-requires : tie.Need-broken-event-requires
-broken-event-requires c κs = search needs
-
 returns : tie.Need-returns
 returns c =
     λ M s e. let read = c .before .before in
     tried-1 M _ s e _ (event-found _ _ _ (read .first .ensures) (unread-is read) (c .before .if1 .taken)) _
     (read .first .ensures ∙ ap (least 64) (unread-is read)) (c .broken-event .ensures)
-
-array-copy-out-unordered : tie.Need-array-copy-out-unordered
-array-copy-out-unordered c = search needs
-
-array-copy-out-unordered-2 : tie.Need-array-copy-out-unordered-2
-array-copy-out-unordered-2 c = search needs
-
-array-copy-out-unordered-3 : tie.Need-array-copy-out-unordered-3
-array-copy-out-unordered-3 c = search needs
-
-unordered-requires : tie.Need-unordered-requires
-unordered-requires c κs = search needs
 
 broken-pair-requires : tie.Need-broken-pair-requires
 broken-pair-requires c κs = pair-bounds _ _ _ (unordered-is (c .before .before)) (c .if2 .taken)
@@ -79,9 +52,6 @@ returns-2 c =
     tried-2 M _ s e _ (hold-1 M _ (holds-1 (writes .before .before .before .before))) _ _ (unordered-is writes)
     (c .before .if2 .taken) (c .broken-pair .ensures)
 
-unbroken-requires : tie.Need-unbroken-requires
-unbroken-requires c κs = search needs
-
 returns-3 : tie.Need-returns-3
 returns-3 c =
     λ M s e. let writes = c .before .before .before in
@@ -91,17 +61,17 @@ pub completeness-spec : {M : Type 1} → statement M
 completeness-spec =
     tie.close
     (tie.spec
-    array-copy-out-unread
-    array-copy-out-unread-2
-    unread-requires
-    first-requires
-    broken-event-requires
+    (λ c. search needs)
+    (λ c. search needs)
+    (λ c κs. search needs)
+    (λ c κs. search needs)
+    (λ c κs. search needs)
     returns
-    array-copy-out-unordered
-    array-copy-out-unordered-2
-    array-copy-out-unordered-3
-    unordered-requires
+    (λ c. search needs)
+    (λ c. search needs)
+    (λ c. search needs)
+    (λ c κs. search needs)
     broken-pair-requires
     returns-2
-    unbroken-requires
+    (λ c κs. search needs)
     returns-3)
