@@ -6,7 +6,7 @@ use Rattle.models.specs.Graph.{base}
 use Rattle.models.specs.Term.{eval}
 use Rattle.models.specs.Armv8.{scPerLoc}
 use Rattle.models.specs.Rules.{ARMv8}
-use Rattle.recording.specs.Decode.{decode}
+use Rattle.layout.specs.Decode.{decode}
 use Rattle.verdict.specs.declared.Verdict.{Verdict}
 use Rattle.execution.specs.OnFile.{OnFile, ShowsAll}
 use Rattle.execution.proofs.AllShown.{shows-all}

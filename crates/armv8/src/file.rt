@@ -5,7 +5,7 @@ use recording::causes;
 use verdict::Verdict;
 ghost use mathlib.Core.Path.{_≡_};
 ghost use Rattle.models.specs.Rules.{ARMv8};
-ghost use Rattle.recording.specs.Decode.{decode};
+ghost use Rattle.layout.specs.Decode.{decode};
 ghost use Rattle.recording.specs.Load.{causeFor};
 ghost use Rattle.execution.specs.OnFile.{OnRecording, OnFile};
 ghost use Rattle.armv8.specs.Judged.{Judged};

@@ -6,7 +6,7 @@ use native.Mathlib.Omega.{arith}
 use Rattle.relation.specs.Rel.{Rel, nodes}
 use Rattle.models.specs.Graph.{Base, base}
 use Rattle.models.specs.Rules.{Model}
-use Rattle.recording.specs.Decode.{decode}
+use Rattle.layout.specs.Decode.{decode}
 use Rattle.recording.specs.Load.{causeFor}
 use Rattle.recording.proofs.CauseLaws.{cause-goes-on}
 use Rattle.recording.proofs.Loaded.{loaded-within}

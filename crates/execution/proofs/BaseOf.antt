@@ -8,10 +8,10 @@ use Rattle.relation.specs.Rel.{Rel, inverse, nodes}
 use Rattle.relation.specs.Bits.{edge}
 use Rattle.models.specs.Recording.{Recording, SetName}
 use Rattle.models.specs.Graph.{Base, base}
-use Rattle.recording.specs.Decode.{decode}
+use Rattle.layout.specs.Decode.{decode}
 use Rattle.recording.specs.Causes.{refusal}
 use Rattle.recording.specs.Load.{causeFor}
-use Rattle.recording.specs.Sets.{LinkRows}
+use Rattle.reading.specs.Sets.{LinkRows}
 use Rattle.models.specs.Rules.{Model, verdict}
 use Rattle.models.proofs.Agree.{recording-verdict}
 use Rattle.recording.proofs.Loaded.{loaded-within}

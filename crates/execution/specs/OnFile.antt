@@ -7,7 +7,7 @@ use Rattle.relation.specs.Order.{EachOnce}
 use Rattle.models.specs.Recording.{Recording, event}
 use Rattle.models.specs.Graph.{Base, base, graph}
 use Rattle.models.specs.Rules as models
-use Rattle.recording.specs.Decode.{decode}
+use Rattle.layout.specs.Decode.{decode}
 use Rattle.recording.specs.Load.{causeFor}
 use Rattle.verdict.specs.Answer.{refuses, answers}
 use Rattle.verdict.specs.Shown.{events}

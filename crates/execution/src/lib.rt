@@ -1,7 +1,7 @@
 // The execution of a loaded recording as arrays: its sets as rows, its relations as grids, each at the place that `verdict` gives it.
 
-use recording::graph;
-use recording::sets;
+use reading::graph;
+use reading::sets;
 use relation::grid;
 use relation::row;
 ghost use mathlib.Core.Path.{_≡_};
@@ -9,7 +9,7 @@ ghost use Rattle.relation.specs.Bits.{bit, edge};
 ghost use Rattle.relation.specs.Rel.{nodes};
 ghost use Rattle.models.specs.Recording.{event};
 ghost use Rattle.models.specs.Graph.{base};
-ghost use Rattle.recording.specs.Decode.{decode};
+ghost use Rattle.layout.specs.Decode.{decode};
 ghost use Rattle.recording.specs.Causes.{refusal};
 ghost use Rattle.execution.specs.Arrays.{SetsOf, RelationsOf};
 

@@ -4,7 +4,7 @@ use Prim.Native.Nat.{ℕ}
 use Rattle.relation.specs.Rel.{nodes}
 use Rattle.models.specs.Graph.{base}
 use Rattle.models.specs.Rules.{IMM}
-use Rattle.recording.specs.Decode.{decode}
+use Rattle.layout.specs.Decode.{decode}
 use Rattle.verdict.specs.declared.Verdict.{Verdict}
 use Rattle.execution.specs.OnFile.{OnFile, ShowsAll}
 use Rattle.execution.proofs.AllShown.{shows-all}

@@ -9,7 +9,7 @@ use lib.Dec.{eqb}
 use lib.ListN.{take}
 use Rattle.relation.proofs.Meaning.{or-either}
 use Rattle.models.specs.Rules.{IMM, ARMv8}
-use Rattle.recording.specs.Layout.{kind, kindKnown}
+use Rattle.layout.specs.Layout.{kind, kindKnown}
 use Rattle.recording.specs.Causes.{refusal}
 use Rattle.recording.specs.Load.{headerOf, answer, loadOf, numberOf, causeFor}
 use Rattle.recording.specs.Input.{longest}

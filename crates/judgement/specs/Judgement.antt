@@ -3,8 +3,8 @@ use mathlib.Core.Path.{_≡_}
 use mathlib.Core.List.{List, [], _++_}
 use Prim.Native.Nat.{ℕ, suc}
 use Rattle.models.specs.Rules.{IMM, ARMv8}
-use Rattle.recording.specs.Layout.{kind}
-use Rattle.recording.specs.Decode.{decode}
+use Rattle.layout.specs.Layout.{kind}
+use Rattle.layout.specs.Decode.{decode}
 use Rattle.recording.specs.Causes.{refusal}
 use Rattle.verdict.specs.declared.Verdict.{Verdict}
 use Rattle.verdict.specs.Answer.{refuses, answers}

@@ -16,13 +16,13 @@ use Rattle.models.specs.Graph.{base}
 use Rattle.models.proofs.Tests.{T-ext, some-intro, some-witness, below-listed, plus-steps, Tests, plus-tests}
 use Rattle.models.proofs.Sets.{step-cases, CoStep, linked, initially}
 use Rattle.models.proofs.Table.{orAll}
-use Rattle.recording.specs.Layout.{kind, events, isSource, kindKnown, mostEvents, mostLinks, linkByte}
-use Rattle.recording.specs.Chains.{each, linksInto, among, follow, met, fresh, onceEach, nextOf, startOf}
-use Rattle.recording.specs.Decode.{isRecorded, isInitial, recordOr, fieldOr, decode}
-use Rattle.recording.specs.Causes.{readLegal, writeLegal, fenceMode, fenceLegal, legal, eventLegal, headerOver, sameLocations, rfLegal, coLegal, rmwLegal, fromRead, dataLegal, addrLegal, ctrlLegal, casdepLegal, linkLegal, linkSound, oneSource, allOf, linksSoundAt, pairedAt, tooShort, kindUnknown, overLimit, wrongLength, badEvent, badThreads, badChains, badLink, coRing, unpaired, refusal}
-use Rattle.recording.proofs.Truth.{is-true, holds, is-false}
-use Rattle.recording.proofs.FieldLaws.{recorded-bounds}
-use Rattle.recording.proofs.ChainLaws.{each-at}
+use Rattle.layout.specs.Layout.{kind, events, isSource, kindKnown, mostEvents, mostLinks, linkByte}
+use Rattle.layout.specs.Chains.{each, linksInto, among, follow, met, fresh, onceEach, nextOf, startOf, allOf}
+use Rattle.layout.specs.Decode.{isRecorded, isInitial, recordOr, fieldOr, decode}
+use Rattle.recording.specs.Causes.{readLegal, writeLegal, fenceMode, fenceLegal, legal, eventLegal, headerOver, sameLocations, rfLegal, coLegal, rmwLegal, fromRead, dataLegal, addrLegal, ctrlLegal, casdepLegal, linkLegal, linkSound, oneSource, linksSoundAt, pairedAt, tooShort, kindUnknown, overLimit, wrongLength, badEvent, badThreads, badChains, badLink, coRing, unpaired, refusal}
+use Rattle.relation.proofs.Truth.{is-true, holds, is-false}
+use Rattle.layout.proofs.FieldLaws.{recorded-bounds}
+use Rattle.layout.proofs.ChainLaws.{each-at}
 use Rattle.recording.proofs.Accepted.{Accepted, accepts, each-all}
 use Rattle.litmus.proofs.Recorded.{eventList, recorded-listed}
 

@@ -11,7 +11,7 @@ use Rattle.relation.specs.Rel.{count, least}
 use Rattle.relation.proofs.Meaning.{and-left, and-right}
 use Rattle.models.specs.Rules.{IMM, ARMv8}
 use Rattle.models.proofs.Table.{orAll, tableVerdict}
-use Rattle.recording.specs.Layout.{kind}
+use Rattle.layout.specs.Layout.{kind}
 use Rattle.recording.specs.Causes.{refusal}
 use Rattle.translation.specs.Contents.{Contents, contents}
 use Rattle.translation.specs.Translate.{flagged, inserted, newEvents, fenced, after, follows, keptOr, newMode, newFlag, controlled, fromExclusive, fromCasdep, newLink, translated}

@@ -15,9 +15,9 @@ use Rattle.models.specs.Graph.{base, Within}
 use Rattle.models.specs.Rules.{Model, verdict}
 use Rattle.models.proofs.Agree.{verdict-relist}
 use Rattle.models.proofs.Table.{tableVerdict, table-verdict}
-use Rattle.recording.specs.Layout.{eventByte}
-use Rattle.recording.specs.Chains.{nextEvent}
-use Rattle.recording.specs.Decode.{isRecorded, isInitial, recordOr, fieldOr, decode}
+use Rattle.layout.specs.Layout.{eventByte}
+use Rattle.layout.specs.Chains.{nextEvent}
+use Rattle.layout.specs.Decode.{isRecorded, isInitial, recordOr, fieldOr, decode}
 use Rattle.recording.specs.Causes.{refusal}
 use Rattle.recording.proofs.Loaded.{loaded-within}
 use Rattle.translation.specs.Contents.{Contents}

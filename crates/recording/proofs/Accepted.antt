@@ -11,12 +11,12 @@ use lib.ListN.{length}
 use Rattle.relation.specs.Rel.{Set, some}
 use Rattle.relation.proofs.Meaning.{and-left, and-right, and-both, or-either}
 use Rattle.models.specs.Rules.{first}
-use Rattle.recording.specs.Layout.{kind, events, locations, links, kindKnown, isSource, mostEvents, mostLinks, fullLength, linkByte, Sized}
-use Rattle.recording.specs.Chains.{each, threadsSound, linksSound, linksInto}
-use Rattle.recording.specs.Decode.{isRecorded, decode}
-use Rattle.recording.specs.Causes.{eventLegal, linkLegal, linkSound, oneSource, allOf, tooShort, kindUnknown, overLimit, wrongLength, badEvent, badThreads, badChains, badLink, coRing, unpaired, refusal, headerOver, linksSoundAt, headerCauses, bodyCauses}
-use Rattle.recording.proofs.FieldLaws.{recorded-bounds}
-use Rattle.recording.proofs.ChainLaws.{each-at}
+use Rattle.layout.specs.Layout.{kind, events, locations, links, kindKnown, isSource, mostEvents, mostLinks, fullLength, linkByte, Sized}
+use Rattle.layout.specs.Chains.{each, threadsSound, linksSound, linksInto, allOf}
+use Rattle.layout.specs.Decode.{isRecorded, decode}
+use Rattle.recording.specs.Causes.{eventLegal, linkLegal, linkSound, oneSource, tooShort, kindUnknown, overLimit, wrongLength, badEvent, badThreads, badChains, badLink, coRing, unpaired, refusal, headerOver, linksSoundAt, headerCauses, bodyCauses}
+use Rattle.layout.proofs.FieldLaws.{recorded-bounds}
+use Rattle.layout.proofs.ChainLaws.{each-at}
 use Rattle.recording.proofs.CauseLaws.{first-skip, first-none as no-more}
 
 none-first : (n : ℕ) (b : Bool) (bs : List Bool) → first (suc n) (b ∷ bs) ≡ 0 → (b ≡ false) × (first (suc (suc n)) bs ≡ 0)

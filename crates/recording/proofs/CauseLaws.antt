@@ -14,17 +14,18 @@ use Rattle.relation.proofs.SetLaws.{least-is, least-lt}
 use Rattle.models.specs.Recording.{Recording, event, ofClass, flagged}
 use Rattle.models.specs.Graph.{base}
 use Rattle.models.specs.Rules.{first}
-use Rattle.recording.specs.Layout.{kind, events, locations, links, linkByte, isSource, kindKnown, mostEvents, mostLinks, fullLength, Sized}
-use Rattle.recording.specs.Chains.{each, among, chain, met, fresh, pushed, onceEach, nextOf, startOf, nextLink, firstLink, linksInto, linksSound}
-use Rattle.recording.specs.Decode.{decode}
-use Rattle.recording.specs.Causes.{allOf, within, readable, Chained, Readable, rfLegal, coLegal, rmwLegal, fromRead, dataLegal, addrLegal, ctrlLegal, casdepLegal, linkLegal, linkSound, oneSource, linksSoundAt, pairedAt, headerOver, eventLegal, tooShort, kindUnknown, overLimit, wrongLength, badEvent, badThreads, badChains, badLink, coRing, unpaired, headerCauses, bodyCauses, refusal}
+use Rattle.layout.specs.Layout.{kind, events, locations, links, linkByte, isSource, kindKnown, mostEvents, mostLinks, fullLength, Sized}
+use Rattle.layout.specs.Chains.{each, among, chain, met, fresh, pushed, onceEach, nextOf, startOf, nextLink, firstLink, linksInto, linksSound, allOf}
+use Rattle.layout.specs.Decode.{decode}
+use Rattle.reading.specs.Readable.{within, readable, Chained, Readable}
+use Rattle.recording.specs.Causes.{rfLegal, coLegal, rmwLegal, fromRead, dataLegal, addrLegal, ctrlLegal, casdepLegal, linkLegal, linkSound, oneSource, linksSoundAt, pairedAt, headerOver, eventLegal, tooShort, kindUnknown, overLimit, wrongLength, badEvent, badThreads, badChains, badLink, coRing, unpaired, headerCauses, bodyCauses, refusal}
 use Rattle.recording.specs.Load.{headerOf, answer, loadOf, numberOf, causeFor}
 use Rattle.recording.specs.declared.Header.{Header}
 use Rattle.recording.specs.declared.Load.{Load}
 use Rattle.recording.specs.declared.Load.the-variants.{Refused, Loaded}
-use Rattle.recording.proofs.Truth.{is-false, same-test}
-use Rattle.recording.proofs.FieldLaws.{event-small}
-use Rattle.recording.proofs.ChainLaws.{fresh-append, each-at}
+use Rattle.relation.proofs.Truth.{is-false, same-test}
+use Rattle.layout.proofs.FieldLaws.{event-small, class-event}
+use Rattle.layout.proofs.ChainLaws.{fresh-append, each-at}
 
 -- The first cause that applies.
 pub first-here : (n : ℕ) (b : Bool) (bs : List Bool) → b ≡ true → n ≡ first n (b ∷ bs)
@@ -112,10 +113,6 @@ alone-with r b x s t e l h d = least-none t ∙ ap not (same-test _ _ one-way ot
         ]
 
 -- A link's source is an event.
-class-event : (r : Recording ℕ) (k a : ℕ) → ofClass r k a ≡ true → event r a ≡ true
-unfolding ofClass
-class-event r k a p = and-left (event r a) (eqb (r .class a) k) p
-
 from-read-event : (r : Recording ℕ) (a b : ℕ) → fromRead r a b ≡ true → event r a ≡ true
 unfolding fromRead
 from-read-event r a b p = class-event r 1 a (and-left (ofClass r 1 a) (base nodes r .po a b) p)

@@ -15,11 +15,11 @@ use Rattle.relation.proofs.Meaning.{Mem, Steps, one, more, and-left, and-right,
 use Rattle.relation.proofs.ByteLaws.{bit-out}
 use Rattle.models.specs.Recording.{Recording, write, sameLocation, coStep}
 use Rattle.models.specs.Graph.{base}
-use Rattle.recording.specs.Layout.{Sized}
-use Rattle.recording.specs.Decode.{isRecorded, isInitial, decode}
+use Rattle.layout.specs.Layout.{Sized}
+use Rattle.layout.specs.Decode.{isRecorded, isInitial, decode}
 use Rattle.recording.specs.Causes.{coRing}
-use Rattle.recording.proofs.Truth.{same-test}
-use Rattle.recording.proofs.FieldLaws.{recorded-bounds, initial-no}
+use Rattle.relation.proofs.Truth.{same-test}
+use Rattle.layout.proofs.FieldLaws.{recorded-bounds, initial-no}
 
 -- Steps the other way round, and steps of a wider relation.
 turned : {r : Rel} {x y : ℕ} → Steps r x y → Steps (λ a b. r b a) y x

@@ -1,14 +1,20 @@
 -- Laws of what records may say: by class and by type.
-use mathlib.Core.Path.{_≡_, refl, sym, ap, ap₂, _∙_}
+use mathlib.Core.Path.{_≡_, refl, sym, ap, ap₂, subst, _∙_}
 use mathlib.Core.Bool.{Bool, true, false, _&&_, _||_}
 use mathlib.Core.List.{List}
-use Prim.Native.Nat.{ℕ, zero, suc}
+use mathlib.Core.Logic.{inl, inr}
+use Prim.Native.Nat.{ℕ, zero, suc, _+_, _<_}
 use native.Mathlib.Omega.{arith}
-use Rattle.models.specs.Recording.{Recording}
-use Rattle.recording.specs.Layout.{byte, kind, locations, eventByte, linkByte, Sized}
-use Rattle.recording.specs.Chains.{nextOf, nextEvent}
-use Rattle.recording.specs.Decode.{isRecorded, decode}
-use lib.Dec.{eqb, ltb}
+use borrow.Author.Tests.{ltb-true, leb-true}
+use Rattle.relation.proofs.Meaning.{and-left, and-right, or-either}
+use Rattle.models.specs.Recording.{Recording, event, ofClass, access}
+use Rattle.layout.specs.Layout.{kind, events, locations, eventByte, linkByte, Sized}
+use Rattle.layout.specs.Chains.{each}
+use Rattle.layout.specs.Decode.{isRecorded, isInitial, decode}
+use Rattle.reading.specs.Sets.{Located}
+use lib.Dec.{eqb, leb, ltb}
+use Rattle.layout.proofs.FieldLaws.{recorded-bounds, location-initial, class-event, class-is, next-first}
+use Rattle.layout.proofs.ChainLaws.{each-at}
 use Rattle.recording.specs.Causes.{readLegal, writeLegal, fenceLegal, legal, eventLegal, rfLegal, coLegal, rmwLegal, fromRead, dataLegal, addrLegal, ctrlLegal, casdepLegal, linkLegal, linkSound}
 
 module _ (k L class mode flag location value : ℕ) (b : Bool) where
@@ -40,10 +46,6 @@ unfolding eventLegal
 event-legal f e class mode flag location value a b c d v = rw (a, b, c, d, v)
 
 -- Whether b follows a.
-pub next-first : (f : List ℕ) (a : ℕ) → eventByte f a 0 ≡ nextEvent f a
-unfolding nextOf
-next-first f a = ap (byte f) (omega arith)
-
 pub next-no : (f : List ℕ) (a b : ℕ) → isRecorded f a ≡ false → false ≡ decode f .next a b
 unfolding decode
 next-no f a b p = rw p
@@ -112,3 +114,44 @@ is-recorded-and f b x y p e = rw p e
 pub link-read : (f : List ℕ) (k b m t a : ℕ) (x : Bool) → t ≡ linkByte f m 1 → a ≡ linkByte f m 2 → x ≡ linkLegal (decode f) k t a b
     → x ≡ linkLegal (decode f) k (linkByte f m 1) (linkByte f m 2) b
 link-read f k b m t a x p q e = e ∙ ap₂ (λ (i j : ℕ). linkLegal (decode f) k i j b) p q
+
+-- In a file whose events are legal, reads and writes have one of its locations.
+legal-read-location : (k L class mode flag location value : ℕ) → class ≡ 1 → legal k L class mode flag location value ≡ true → location < L
+unfolding legal
+legal-read-location k L class mode flag location value e p =
+    ltb-true location L
+    (and-right (readLegal mode flag) (ltb location L) (subst (λ (c : ℕ). legal k L c mode flag location value ≡ true) e p))
+
+legal-write-location : (k L class mode flag location value : ℕ) → class ≡ 2 → legal k L class mode flag location value ≡ true → location < L
+unfolding legal
+legal-write-location k L class mode flag location value e p =
+    ltb-true location L
+    (and-right (writeLegal k mode flag) (ltb location L) (subst (λ (c : ℕ). legal k L c mode flag location value ≡ true) e p))
+
+module _ (f : List ℕ) (s : Sized f) (legal-events : each (events f) (eventLegal f) ≡ true) where
+  recorded-legal : (e : ℕ) → isRecorded f e ≡ true → eventLegal f e ≡ true
+  recorded-legal e p = let (a, b) = recorded-bounds f e p in each-at (events f) (eventLegal f) legal-events e a b
+
+  initial-location : (e : ℕ) → isInitial f e ≡ true → decode f .location e < locations f
+  unfolding isInitial
+  initial-location e p =
+      let h = leb-true 56 e (and-left (leb 56 e) (ltb e (56 + locations f)) p) in
+      let g = ltb-true e (56 + locations f) (and-right (leb 56 e) (ltb e (56 + locations f)) p) in
+      let q = location-initial f e h in
+      omega arith
+
+  class-location : (k e : ℕ) → ofClass (decode f) k e ≡ true → (isRecorded f e ≡ true → decode f .location e < locations f) → decode f .location e < locations f
+  unfolding event decode
+  class-location k e p g =
+      elim (or-either (isInitial f e) (isRecorded f e) (class-event (decode f) k e p)) [ inl q ↦ initial-location e q | inr q ↦ g q ]
+
+  access-location : (e : ℕ) → access (decode f) e ≡ true → decode f .location e < locations f
+  unfolding access eventLegal
+  access-location e p =
+      elim (or-either (ofClass (decode f) 1 e) (ofClass (decode f) 2 e) p) [
+        | inl q ↦ class-location 1 e q (λ r. legal-read-location _ _ _ _ _ _ _ (class-is (decode f) 1 e q) (recorded-legal e r))
+        | inr q ↦ class-location 2 e q (λ r. legal-write-location _ _ _ _ _ _ _ (class-is (decode f) 2 e q) (recorded-legal e r))
+      ]
+
+  pub accesses-located : Located f
+  accesses-located e p = omega (arith, access-location e p, s .most-locations)

@@ -16,15 +16,18 @@ use Rattle.models.specs.Recording.{Recording, event, ofClass, flagged, access, 
 use Rattle.models.specs.Graph.{graph, base, Within}
 use Rattle.models.specs.Loads.{Loads}
 use Rattle.models.proofs.Tests.{or-cases, below-listed, plus-one, plus-join, plus-steps}
-use Rattle.recording.specs.Layout.{kind, isSource, events, locations, threads, firstInitial, Sized}
-use Rattle.recording.specs.Chains.{among, chain, met, fresh, each, onceEach, nextEvent, head, threadsSound, linksInto}
-use Rattle.recording.specs.Decode.{isRecorded, isInitial, decode, fieldOr}
-use Rattle.recording.specs.Causes.{legal as legalNumbers, eventLegal, rfLegal, coLegal, rmwLegal, fromRead, dataLegal, addrLegal, ctrlLegal, casdepLegal, linkLegal, oneSource, sameLocations, coRing, pairedAt, unpaired, linkSound, allOf, Readable, refusal}
-use Rattle.recording.proofs.Truth.{is-true, holds}
-use Rattle.recording.proofs.FieldLaws.{recorded-bounds, recorded-is, field-initial, event-small}
-use Rattle.recording.proofs.ChainLaws.{each-at}
+use Rattle.layout.specs.Layout.{kind, isSource, events, locations, threads, firstInitial, Sized}
+use Rattle.layout.specs.Chains.{among, chain, met, fresh, each, onceEach, nextEvent, head, threadsSound, linksInto, allOf}
+use Rattle.layout.specs.Decode.{isRecorded, isInitial, decode, fieldOr}
+use Rattle.reading.specs.Sets.{Located}
+use Rattle.reading.specs.Readable.{Readable}
+use Rattle.recording.specs.Causes.{legal as legalNumbers, eventLegal, rfLegal, coLegal, rmwLegal, fromRead, dataLegal, addrLegal, ctrlLegal, casdepLegal, linkLegal, oneSource, sameLocations, coRing, pairedAt, unpaired, linkSound, refusal}
+use Rattle.relation.proofs.Truth.{is-true, holds}
+use Rattle.layout.proofs.FieldLaws.{recorded-bounds, recorded-is, field-initial, event-small}
+use Rattle.layout.proofs.ChainLaws.{each-at}
+use Rattle.recording.proofs.LegalLaws.{accesses-located}
 use Rattle.recording.proofs.CauseLaws.{source-event, chained, readable-of, legal-of}
-use Rattle.recording.proofs.ChainFacts.{Ended, end, step, among-cases, ended-after, chain-ended, met-cases, one-chain}
+use Rattle.layout.proofs.ChainFacts.{Ended, end, step, among-cases, ended-after, chain-ended, met-cases, one-chain}
 use Rattle.recording.proofs.Accepted.{Accepted, accepted, sized, legal-event, threads-sound, links-legal, legal-link}
 
 -- The chain from x is one list.
@@ -407,8 +410,8 @@ loaded-sized f p = sized f (accepted f p)
 pub loaded-readable : (f : List ℕ) → refusal f ≡ 0 → Readable f
 loaded-readable f p = (let a = accepted f p in readable-of f (chained f (sized f a) (a .cause7)) (a .cause8))
 
-pub loaded-legal : (f : List ℕ) → refusal f ≡ 0 → each (events f) (eventLegal f) ≡ true
-loaded-legal f p = legal-of f (accepted f p .cause5)
+pub loaded-located : (f : List ℕ) → refusal f ≡ 0 → Located f
+loaded-located f p = accesses-located f (loaded-sized f p) (legal-of f (accepted f p .cause5))
 
 pub loaded-threads : (f : List ℕ) → refusal f ≡ 0 → threadsSound f ≡ true
 loaded-threads f p = threads-sound f (accepted f p)

@@ -12,7 +12,7 @@ use lib.Dec.{eqb, ltb}
 use lib.ListN.{length, take, length-take}
 use lib.Seq.{getD-take, length-take-le, take-all}
 use Rattle.models.specs.Rules.{first}
-use Rattle.recording.specs.Layout.{kind, events, locations, links, kindKnown, isSource, mostEvents, mostLinks, fullLength}
+use Rattle.layout.specs.Layout.{kind, events, locations, links, kindKnown, isSource, mostEvents, mostLinks, fullLength}
 use Rattle.recording.specs.Causes.{headerOver, tooShort, kindUnknown, overLimit, wrongLength, headerCauses, bodyCauses, refusal}
 use Rattle.recording.specs.Input.{longest, ReadOf}
 use Rattle.recording.proofs.CauseLaws.{first-here, first-skip}

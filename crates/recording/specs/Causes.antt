@@ -9,9 +9,9 @@ use Rattle.relation.specs.Rel.{some, inverse, diagonal, nodes}
 use Rattle.models.specs.Recording.{Recording, read, write, access, exclusiveRead, strongWrite}
 use Rattle.models.specs.Graph.{base}
 use Rattle.models.specs.Rules.{first}
-use Rattle.recording.specs.Layout.{kind, events, locations, links, kindKnown, isSource, mostEvents, mostLocations, mostLinks, headerSize, fullLength, linkByte, Sized}
-use Rattle.recording.specs.Chains.{each, threadsSound, linksSound, linksInto}
-use Rattle.recording.specs.Decode.{decode}
+use Rattle.layout.specs.Layout.{kind, events, locations, links, kindKnown, isSource, mostEvents, mostLocations, mostLinks, headerSize, fullLength, linkByte, Sized}
+use Rattle.layout.specs.Chains.{each, allOf, threadsSound, linksSound, linksInto}
+use Rattle.layout.specs.Decode.{decode}
 
 -- 3. The limits by kind.
 unfoldable pub headerOver : ℕ → ℕ → ℕ → ℕ → Bool
@@ -98,11 +98,6 @@ module _ (r : Recording ℕ) where
 unfoldable pub linkSound : List ℕ → ℕ → ℕ → Bool
 linkSound f b m = linkLegal (decode f) (kind f) (linkByte f m 1) (linkByte f m 2) b && eqb (linkByte f m 3) 0
 
--- The test holds of every member of the list.
-unfoldable pub allOf : List ℕ → (ℕ → Bool) → Bool
-allOf [] p = true
-allOf (x ∷ xs) p = p x && allOf xs p
-
 -- The links into b: each is sound, and b has one rf source.
 unfoldable pub linksSoundAt : List ℕ → ℕ → Bool
 linksSoundAt f b = allOf (linksInto f b) (linkSound f b) && oneSource (decode f) b
@@ -163,23 +158,3 @@ module _ (f : List ℕ) where
   -- The first cause that applies, and 0 where none does.
   unfoldable pub refusal : ℕ
   refusal = first 1 (headerCauses ++ bodyCauses)
-
--- The rest says what the functions that read links ask for.
-
--- A link record that lies within the file.
-unfoldable pub within : List ℕ → ℕ → Bool
-within f m = leb m (links f)
-
--- And whose source is below 64.
-unfoldable pub readable : List ℕ → ℕ → Bool
-readable f m = within f m && ltb (linkByte f m 2) 64
-
--- Every link of the file is readable.
-pub record Readable (f : List ℕ) : Type 0 where
-  pub sized : Sized f
-  pub chains : (b : ℕ) → 1 ≤ b → b ≤ events f → allOf (linksInto f b) (readable f) ≡ true
-
--- Every link of the file lies within it.
-pub record Chained (f : List ℕ) : Type 0 where
-  pub sized : Sized f
-  pub chains : (b : ℕ) → 1 ≤ b → b ≤ events f → allOf (linksInto f b) (within f) ≡ true

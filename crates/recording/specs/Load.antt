@@ -3,7 +3,7 @@ use mathlib.Core.List.{List}
 use mathlib.Core.Bool.{true, false}
 use Prim.Native.Nat.{ℕ, zero, suc}
 use lib.Dec.{eqb}
-use Rattle.recording.specs.Layout.{kind, events, locations, links}
+use Rattle.layout.specs.Layout.{kind, events, locations, links}
 use Rattle.recording.specs.Causes.{refusal}
 use Rattle.recording.specs.declared.Header.{Header}
 use Rattle.recording.specs.declared.Load.{Load}

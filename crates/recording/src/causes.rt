@@ -2,11 +2,11 @@
 
 use crate::Header;
 use crate::Load;
-use crate::chain;
-use crate::field;
-use crate::graph;
 use crate::legal;
 use crate::links;
+use layout::chain;
+use layout::field;
+use reading::graph;
 use relation::grid;
 use relation::row;
 ghost use mathlib.Core.Path.{_≡_};
@@ -17,10 +17,11 @@ ghost use Rattle.relation.specs.Bits.{edge};
 ghost use Rattle.relation.specs.Rel.{nodes};
 ghost use Rattle.models.specs.Graph.{base};
 ghost use Rattle.models.specs.Rules.{first};
-ghost use Rattle.recording.specs.Layout.{kind, events, locations, links, kindKnown, mostEvents, mostLinks, Sized};
-ghost use Rattle.recording.specs.Chains.{each};
-ghost use Rattle.recording.specs.Decode.{decode};
-ghost use Rattle.recording.specs.Causes.{Readable, linksSoundAt, pairedAt, Chained, headerOver, headerCauses, bodyCauses, badThreads, badChains, coRing};
+ghost use Rattle.layout.specs.Layout.{kind, events, locations, links, kindKnown, mostEvents, mostLinks, Sized};
+ghost use Rattle.layout.specs.Chains.{each};
+ghost use Rattle.layout.specs.Decode.{decode};
+ghost use Rattle.reading.specs.Readable.{Readable, Chained};
+ghost use Rattle.recording.specs.Causes.{linksSoundAt, pairedAt, headerOver, headerCauses, bodyCauses, badThreads, badChains, coRing};
 ghost use Rattle.recording.specs.Load.{headerOf, loadOf, numberOf, causeFor};
 
 // Whether all links are sound.

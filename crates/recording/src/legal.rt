@@ -1,6 +1,6 @@
 // What a record may say: the table of classes, modes and flags, and the conditions of the links.
 
-use crate::field;
+use layout::field;
 ghost use mathlib.Core.Path.{_≡_};
 ghost use mathlib.Core.Bool.{not, _&&_, _||_};
 ghost use Prim.Native.Nat.{_≤_, _<_};
@@ -8,9 +8,9 @@ ghost use lib.Dec.{eqb, leb};
 ghost use Rattle.relation.specs.Rel.{nodes};
 ghost use Rattle.models.specs.Graph.{base};
 ghost use Rattle.models.specs.Recording.{ofClass, flagged};
-ghost use Rattle.recording.specs.Layout.{kind, events, links, linkByte, isSource, Sized};
-ghost use Rattle.recording.specs.Chains.{each};
-ghost use Rattle.recording.specs.Decode.{decode};
+ghost use Rattle.layout.specs.Layout.{kind, events, links, linkByte, isSource, Sized};
+ghost use Rattle.layout.specs.Chains.{each};
+ghost use Rattle.layout.specs.Decode.{decode};
 ghost use Rattle.recording.specs.Causes.{readLegal, writeLegal, fenceMode, fenceLegal, legal, eventLegal, sameLocations, rfLegal, coLegal, rmwLegal, fromRead, dataLegal, addrLegal, casdepLegal, linkLegal, linkSound};
 
 // Whether the kind is that of source recordings.

@@ -1,13 +1,8 @@
-// Recordings: loading a file exactly when no cause of refusal applies, and reading what a loaded file holds.
+// Recordings: loading a file exactly when no cause of refusal applies.
 
 pub mod causes;
-pub mod chain;
-pub mod field;
-pub mod graph;
 pub mod legal;
 pub mod links;
-pub mod sets;
-pub mod thread;
 
 // The header's numbers: kind, N event records, L locations, M link records.
 pub struct Header {

@@ -1,4 +1,5 @@
 -- Laws that the proofs of `relation` share, and its theorems.
+pub mod Truth
 pub mod ByteLaws
 pub mod SetLaws
 pub mod GridLaws

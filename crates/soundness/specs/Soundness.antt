@@ -7,8 +7,8 @@ use Prim.Native.Nat.{ℕ}
 use Rattle.relation.specs.Rel.{nodes}
 use Rattle.models.specs.Graph.{base}
 use Rattle.models.specs.Rules.{IMM, ARMv8, verdict}
-use Rattle.recording.specs.Layout.{kind}
-use Rattle.recording.specs.Decode.{decode}
+use Rattle.layout.specs.Layout.{kind}
+use Rattle.layout.specs.Decode.{decode}
 use Rattle.recording.specs.Causes.{refusal}
 use Rattle.translation.specs.Answer.{translation}
 

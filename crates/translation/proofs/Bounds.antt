@@ -9,17 +9,17 @@ use lib.Dec.{eqb}
 use Rattle.relation.specs.Rel.{Set, some, count}
 use Rattle.relation.proofs.Meaning.{Mem, here, there, and-left, and-right, some-sound}
 use Rattle.models.specs.Recording.{flagged}
-use Rattle.recording.specs.Layout.{events, links, linkByte}
-use Rattle.recording.specs.Chains.{nextEvent, nextLink, firstLink, linksInto, met, fresh, onceEach, allMet, among}
-use Rattle.recording.specs.Decode.{isRecorded, decode}
+use Rattle.layout.specs.Layout.{events, links, linkByte}
+use Rattle.layout.specs.Chains.{nextEvent, nextLink, firstLink, linksInto, met, fresh, onceEach, allMet, among}
+use Rattle.layout.specs.Decode.{isRecorded, decode}
 use Rattle.translation.specs.Contents.{contents}
 use Rattle.translation.specs.Translate.{exclusive, strong, newEvents, after, controlled, translated}
 use Rattle.translation.specs.Encode.{isLink, linksUpTo}
 use Rattle.translation.specs.Answer.{chip}
 use Rattle.translation.specs.Parts.{Source}
-use Rattle.recording.proofs.Truth.{is-true, holds}
+use Rattle.relation.proofs.Truth.{is-true, holds}
 use Rattle.recording.proofs.Accepted.{links-sound}
-use Rattle.recording.proofs.ChainFacts.{among-here, among-there, fresh-within, follow-positive, met-at, one-chain}
+use Rattle.layout.proofs.ChainFacts.{among-here, among-there, fresh-within, follow-positive, met-at, one-chain}
 use Rattle.relation.proofs.Counting.{count-inject, count-double}
 use Rattle.translation.proofs.TranslateLaws.{Flagged, flagged-is, Linked, stays, exclusively, casdep, new-is}
 use Rattle.translation.proofs.EncodedLinks.{LinksFit}

@@ -10,7 +10,7 @@ use borrow.Author.Tests.{lt-ltb, le-ltb, ltb-false, eqb-true}
 use lib.Dec.{eqb, ltb}
 use lib.ListN.{length, take, drop, length-drop, drop-of-length-le}
 use lib.Seq.{take-all, drop-drop}
-use Rattle.recording.specs.Layout.{kind}
+use Rattle.layout.specs.Layout.{kind}
 use Rattle.recording.specs.Causes.{refusal}
 use Rattle.recording.specs.Load.{causeFor}
 use Rattle.recording.specs.Input.{longest, ReadOf}

@@ -9,8 +9,8 @@ use lib.Dec.{leb}
 use lib.ListN.{length, getD, length-append, List·getD-append}
 use lib.Seq.{getD-append-add}
 use Rattle.relation.specs.Rel.{count}
-use Rattle.recording.specs.Layout.{kind, events, locations, links, linkStart, fullLength, eventByte, linkByte}
-use Rattle.recording.specs.Chains.{head, startOf}
+use Rattle.layout.specs.Layout.{kind, events, locations, links, linkStart, fullLength, eventByte, linkByte}
+use Rattle.layout.specs.Chains.{head, startOf}
 use Rattle.translation.specs.Contents.{Contents}
 use Rattle.translation.specs.Encode.{isLink, linksBefore, linksUpTo, header, eventRecord, linkRecord, eventRecords, linkRecords, encode}
 use Rattle.relation.proofs.Counting.{count-yes}

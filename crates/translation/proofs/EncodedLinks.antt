@@ -12,10 +12,10 @@ use lib.Dec.{eqb}
 use lib.ListN.{getD}
 use Rattle.relation.specs.Rel.{Set, count, some}
 use Rattle.relation.proofs.Meaning.{and-both, and-left, and-right}
-use Rattle.recording.specs.Layout.{events, links, linkStart, linkByte}
-use Rattle.recording.specs.Chains.{nextOf, startOf, nextLink, firstLink, linksInto, chain, follow, met, linksSound, onceEach}
-use Rattle.recording.specs.Decode.{isRecorded, decode}
-use Rattle.recording.proofs.FieldLaws.{recorded-bounds, recorded-is}
+use Rattle.layout.specs.Layout.{events, links, linkStart, linkByte}
+use Rattle.layout.specs.Chains.{nextOf, startOf, nextLink, firstLink, linksInto, chain, follow, met, linksSound, onceEach}
+use Rattle.layout.specs.Decode.{isRecorded, decode}
+use Rattle.layout.proofs.FieldLaws.{recorded-bounds, recorded-is}
 use Rattle.translation.specs.Contents.{Contents}
 use Rattle.translation.specs.Encode.{chained, isLink, linksBefore, linksUpTo, eventRecord, linkRecord, encode}
 use Rattle.relation.proofs.Counting.{select, count-mono, count-lt, count-none}

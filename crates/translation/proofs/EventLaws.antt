@@ -10,10 +10,10 @@ use lib.Dec.{eqb}
 use Rattle.relation.specs.Rel.{count}
 use Rattle.relation.proofs.SetLaws.{count-yes, count-no, least-at, least-none}
 use Rattle.models.specs.Recording as recording
-use Rattle.recording.specs.Layout.{events, eventByte}
-use Rattle.recording.specs.Decode.{decode}
-use Rattle.recording.proofs.FieldLaws.{and-yes, and-no}
-use Rattle.recording.proofs.LegalLaws.{next-first}
+use Rattle.layout.specs.Layout.{events, eventByte}
+use Rattle.layout.specs.Decode.{decode}
+use Rattle.layout.proofs.FieldLaws.{and-yes, and-no}
+use Rattle.layout.proofs.FieldLaws.{next-first}
 use Rattle.translation.specs.Contents.{contents}
 use Rattle.translation.specs.Translate.{strong, inserted, newEvents, fenced, after, keptOr, newMode, newFlag}
 use Rattle.translation.specs.Parts.{Source, NewEvent}

@@ -10,12 +10,12 @@ use native.Mathlib.Decide.{ℕ-discrete, decLe}
 use borrow.Author.Tests.{leb-true, eqb-true}
 use lib.Dec.{eqb, leb, ltb}
 use Rattle.relation.proofs.Meaning.{and-left, and-right, and-both, or-either}
-use Rattle.recording.specs.Layout.{isSource, kind, locations}
-use Rattle.recording.specs.Decode.{decode}
+use Rattle.layout.specs.Layout.{isSource, kind, locations}
+use Rattle.layout.specs.Decode.{decode}
 use Rattle.recording.specs.Causes.{writeLegal, fenceMode, fenceLegal, legal, eventLegal}
 use Rattle.translation.specs.Contents.{Contents}
 use Rattle.translation.specs.Translate.{strong, newMode, newFlag, translated}
-use Rattle.recording.proofs.Truth.{is-false}
+use Rattle.relation.proofs.Truth.{is-false}
 use Rattle.translation.proofs.TranslateLaws as law
 use Rattle.translation.proofs.TranslateLaws.{flagged-is}
 use Rattle.translation.proofs.Says.{Says}

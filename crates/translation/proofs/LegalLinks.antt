@@ -16,7 +16,7 @@ use Rattle.models.proofs.Tests.{plus-steps, below-listed}
 use Rattle.models.proofs.Sets.{recorded-event, class-event, flag-class, access-event, step-intro, linked}
 use Rattle.models.proofs.Agree.{agrees}
 use Rattle.recording.specs.Causes.{sameLocations, rfLegal, coLegal, rmwLegal, fromRead, dataLegal, addrLegal, ctrlLegal, linkLegal, oneSource}
-use Rattle.recording.proofs.Truth.{is-true, holds, is-false}
+use Rattle.relation.proofs.Truth.{is-true, holds, is-false}
 
 -- Links have types 1 to 6, and rf joins equal values.
 module _ (r : Recording ℕ) (l : Loads r) (small : (e : ℕ) → T (event r e) → e < 64)

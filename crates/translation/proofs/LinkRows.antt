@@ -16,12 +16,12 @@ use Rattle.relation.specs.Bits.{bit}
 use Rattle.relation.proofs.Meaning.{and-left, and-right}
 use Rattle.relation.proofs.SetLaws.{or-false, and-false}
 use Rattle.models.specs.Recording as recording
-use Rattle.recording.specs.Layout.{events, eventByte}
-use Rattle.recording.specs.Decode.{isRecorded, decode}
-use Rattle.recording.specs.Causes.{Readable}
-use Rattle.recording.specs.Sets.{SourcesInto}
-use Rattle.recording.proofs.Truth.{is-false}
-use Rattle.recording.proofs.LegalLaws.{next-first}
+use Rattle.layout.specs.Layout.{events, eventByte}
+use Rattle.layout.specs.Decode.{isRecorded, decode}
+use Rattle.reading.specs.Sets.{SourcesInto}
+use Rattle.reading.specs.Readable.{Readable}
+use Rattle.relation.proofs.Truth.{is-false}
+use Rattle.layout.proofs.FieldLaws.{next-first}
 use Rattle.recording.proofs.Loaded.{loaded-readable}
 use Rattle.translation.specs.Contents.{Contents, contents}
 use Rattle.translation.specs.Translate.{flagged, exclusive, newEvents, after, follows, controlled, fromExclusive, fromCasdep, newLink, translated}

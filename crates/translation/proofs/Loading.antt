@@ -16,17 +16,17 @@ use Rattle.models.specs.Loads.{Loads}
 use Rattle.models.specs.Translated.{Translated}
 use Rattle.models.proofs.FromTranslated.{translation-loads}
 use Rattle.models.proofs.Sets.{class-event}
-use Rattle.recording.specs.Layout.{kind, events, locations, threads, isSource, kindKnown, mostEvents, mostLinks, fullLength, linkByte}
-use Rattle.recording.specs.Chains.{nextEvent, head, follow, chain, met, onceEach, linksInto}
-use Rattle.recording.specs.Decode.{decode}
-use Rattle.recording.specs.Causes.{eventLegal, legal, linkLegal, linkSound, oneSource, linksSoundAt, pairedAt, headerOver, allOf, rfLegal, sameLocations, tooShort, kindUnknown, overLimit, wrongLength, badEvent, badThreads, badChains, badLink, coRing, unpaired, refusal}
-use Rattle.recording.proofs.ChainLaws.{follow-in, follow-over}
+use Rattle.layout.specs.Layout.{kind, events, locations, threads, isSource, kindKnown, mostEvents, mostLinks, fullLength, linkByte}
+use Rattle.layout.specs.Chains.{nextEvent, head, follow, chain, met, onceEach, linksInto, allOf}
+use Rattle.layout.specs.Decode.{decode}
+use Rattle.recording.specs.Causes.{eventLegal, legal, linkLegal, linkSound, oneSource, linksSoundAt, pairedAt, headerOver, rfLegal, sameLocations, tooShort, kindUnknown, overLimit, wrongLength, badEvent, badThreads, badChains, badLink, coRing, unpaired, refusal}
+use Rattle.layout.proofs.ChainLaws.{follow-in, follow-over}
 use Rattle.translation.specs.Contents.{Contents, contents}
 use Rattle.translation.specs.Translate.{flagged, strong, newEvents, after, newFlag, translated}
 use Rattle.translation.specs.Encode.{linksBefore, linksUpTo, linkRecord, encode}
 use Rattle.translation.specs.Answer.{chip, translation}
 use Rattle.translation.specs.Parts.{Source}
-use Rattle.recording.proofs.Truth.{is-true, holds, is-false, by-test}
+use Rattle.relation.proofs.Truth.{is-true, holds, is-false, by-test}
 use Rattle.recording.proofs.Accepted.{Accepted, accepts, each-all, legal-event, threads-sound}
 use Rattle.translation.proofs.EncodeLaws.{encode-length, encode-full, encode-kind, encode-events, encode-locations, encode-links, encode-head}
 use Rattle.translation.proofs.Runs.{run-all}

@@ -14,7 +14,7 @@ use Rattle.models.proofs.Tests.{or-left, or-right}
 use Rattle.models.proofs.Sets.{class-event, class-is, mode-intro, access-event, access-cases}
 use Rattle.translation.specs.Contents.{Contents}
 use Rattle.translation.specs.Translate.{exclusive, strong, inserted, newEvents, after, keptOr, newMode, newFlag, newLink, translated}
-use Rattle.recording.proofs.Truth.{is-true, holds, same-test, is-false, by-test}
+use Rattle.relation.proofs.Truth.{is-true, holds, same-test, is-false, by-test}
 use Rattle.translation.proofs.TranslateLaws as law
 use Rattle.translation.proofs.TranslateLaws.{flagged-is, Linked, stays, exclusively, casdep, New, new-is, new-intro}
 use Rattle.translation.proofs.Says.{Says, Event, initially, recorded, event-says, flagged-says}

@@ -11,8 +11,7 @@ use borrow.Author.Tests.{eq-eqb, ne-eqb, le-leb, lt-ltb, le-ltb}
 use lib.Dec.{eqb, leb}
 use Rattle.relation.specs.Rel.{Set, some}
 use Rattle.relation.proofs.Meaning.{and-both, or-left, or-right, or-either}
-use Rattle.recording.specs.Chains.{among, follow, fresh, each, allMet, onceEach}
-use Rattle.recording.specs.Causes.{allOf}
+use Rattle.layout.specs.Chains.{among, follow, fresh, each, allMet, onceEach, allOf}
 use Rattle.translation.specs.Encode.{chained}
 
 -- The d numbers after lo.

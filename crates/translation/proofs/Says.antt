@@ -14,14 +14,14 @@ use mathlib.Core.Logic.{inl, inr}
 use Rattle.models.specs.Recording.{Recording, event}
 use Rattle.models.specs.Recording as recording
 use Rattle.models.proofs.Sets.{initial-event, recorded-event, event-cases, class-event, class-is, class-intro, flag-class, flag-is, flag-intro}
-use Rattle.recording.specs.Layout.{events, locations, eventByte}
-use Rattle.recording.specs.Chains.{nextOf, nextEvent}
-use Rattle.recording.specs.Decode.{isRecorded, isInitial, fieldOr, decode}
-use Rattle.recording.proofs.FieldLaws.{recorded-bounds, recorded-is, record-initial, record-recorded, field-initial, field-recorded}
+use Rattle.layout.specs.Layout.{events, locations, eventByte}
+use Rattle.layout.specs.Chains.{nextOf, nextEvent}
+use Rattle.layout.specs.Decode.{isRecorded, isInitial, fieldOr, decode}
+use Rattle.layout.proofs.FieldLaws.{recorded-bounds, recorded-is, record-initial, record-recorded, field-initial, field-recorded}
 use Rattle.translation.specs.Contents.{Contents, contents}
 use Rattle.translation.specs.Translate.{flagged}
 use Rattle.translation.specs.Encode.{eventRecord, encode}
-use Rattle.recording.proofs.Truth.{is-true, holds, same-test}
+use Rattle.relation.proofs.Truth.{is-true, holds, same-test}
 use Rattle.translation.proofs.TranslateLaws.{flagged-is, flagged-intro}
 use Rattle.translation.proofs.EncodeLaws.{encode-events, encode-locations, encode-event}
 use Rattle.translation.proofs.EncodedLinks.{LinksFit, encoded-link}

@@ -10,14 +10,14 @@ use Rattle.relation.proofs.Meaning.{and-left, and-right}
 use Rattle.models.specs.Recording as recording
 use Rattle.models.specs.Recording.{event}
 use Rattle.models.specs.Loads.{Loads}
-use Rattle.recording.specs.Layout.{kind, events, locations, links, threads, linkByte, Sized}
-use Rattle.recording.specs.Chains.{nextEvent, head, linksInto, met, fresh, allMet, onceEach, among}
-use Rattle.recording.specs.Decode.{isRecorded, decode}
+use Rattle.layout.specs.Layout.{kind, events, locations, links, threads, linkByte, Sized}
+use Rattle.layout.specs.Chains.{nextEvent, head, linksInto, met, fresh, allMet, onceEach, among}
+use Rattle.layout.specs.Decode.{isRecorded, decode}
 use Rattle.recording.specs.Causes.{linkLegal}
-use Rattle.recording.proofs.FieldLaws.{recorded-bounds, event-small}
-use Rattle.recording.proofs.ChainLaws.{each-at}
-use Rattle.recording.proofs.Truth.{is-true, holds}
-use Rattle.recording.proofs.ChainFacts.{chain-ended, ended-next, met-cases}
+use Rattle.layout.proofs.FieldLaws.{recorded-bounds, event-small}
+use Rattle.layout.proofs.ChainLaws.{each-at}
+use Rattle.relation.proofs.Truth.{is-true, holds}
+use Rattle.layout.proofs.ChainFacts.{chain-ended, ended-next, met-cases}
 use Rattle.recording.proofs.Accepted.{Accepted, accepted, threads-sound, legal-link, source-limits, source-sized}
 use Rattle.recording.proofs.Loaded as loaded
 use Rattle.translation.specs.Contents.{contents}

@@ -9,8 +9,8 @@ use Rattle.models.specs.Graph.{base}
 use Rattle.models.specs.Rules.{IMM, ARMv8, verdict}
 use Rattle.models.specs.Translated.{Translated}
 use Rattle.models.proofs.Sound.{verdict-sound}
-use Rattle.recording.specs.Layout.{kind, events, links}
-use Rattle.recording.specs.Decode.{decode}
+use Rattle.layout.specs.Layout.{kind, events, links}
+use Rattle.layout.specs.Decode.{decode}
 use Rattle.recording.specs.Causes.{refusal}
 use Rattle.recording.proofs.Loaded as loaded
 use Rattle.translation.specs.Translate.{translated}

@@ -11,11 +11,11 @@ use borrow.Author.Tests.{le-leb}
 use lib.Dec.{leb}
 use Rattle.relation.specs.Rel.{Set}
 use Rattle.relation.proofs.Meaning.{and-left, and-right, and-both}
-use Rattle.recording.specs.Chains.{among, chain, met, fresh, allMet, onceEach}
-use Rattle.recording.proofs.ChainLaws.{each-at}
-use Rattle.recording.proofs.Truth.{by-test}
+use Rattle.layout.specs.Chains.{among, chain, met, fresh, allMet, onceEach}
+use Rattle.layout.proofs.ChainLaws.{each-at}
+use Rattle.relation.proofs.Truth.{by-test}
 use Rattle.recording.proofs.Accepted.{each-all}
-use Rattle.recording.proofs.ChainFacts.{Ended, end, step, among-here, among-there, among-cases, Fresh, fresh-cons, fresh-length, chain-ended, chain-fresh, ended-walk, ended-positive}
+use Rattle.layout.proofs.ChainFacts.{Ended, end, step, among-here, among-there, among-cases, Fresh, fresh-cons, fresh-length, chain-ended, chain-fresh, ended-walk, ended-positive}
 
 -- After each number of the set s, all at most n, comes a new one, `new`: these are the numbers from n + 1 to m, each once.
 pub record Weaves (n m : ℕ) (next after : ℕ → ℕ) (s : Set) (new : ℕ → ℕ) : Type 0 where

@@ -11,8 +11,8 @@ use lib.Dec.{leb}
 use lib.ListN.{length, getD}
 use Rattle.relation.specs.Rel.{Set, Rel, inverse, least, count, Next}
 use Rattle.relation.proofs.SetLaws.{Least, least-is, skip-to}
-use Rattle.recording.specs.Layout.{eventByte}
-use Rattle.recording.specs.Chains.{startOf}
+use Rattle.layout.specs.Layout.{eventByte}
+use Rattle.layout.specs.Chains.{startOf}
 use Rattle.translation.specs.Contents.{Contents, contents}
 use Rattle.translation.specs.Translate.{newEvents, after, keptOr, newMode, newFlag, newLink, translated}
 use Rattle.translation.specs.Encode.{chained, records, isLink, linksBefore, linksUpTo, header, eventRecord, linkRecord, eventRecords, linkRecords}

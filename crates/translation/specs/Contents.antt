@@ -2,9 +2,9 @@
 use mathlib.Core.Bool.{Bool}
 use mathlib.Core.List.{List}
 use Prim.Native.Nat.{ℕ}
-use Rattle.recording.specs.Layout.{kind, events, locations, eventByte}
-use Rattle.recording.specs.Chains.{nextEvent, head}
-use Rattle.recording.specs.Decode.{decode}
+use Rattle.layout.specs.Layout.{kind, events, locations, eventByte}
+use Rattle.layout.specs.Chains.{nextEvent, head}
+use Rattle.layout.specs.Decode.{decode}
 
 pub record Contents : Type 0 where
   -- The header: kind, N event records, L locations, the head of each thread (from 0).

@@ -7,7 +7,7 @@ use lib.Dec.{leb}
 use lib.ListN.{length, getD, take, drop}
 use Rattle.relation.specs.Rel.{Set, Rel, either, inverse, count}
 use Rattle.relation.specs.Bits.{bit}
-use Rattle.recording.specs.Layout.{kind}
+use Rattle.layout.specs.Layout.{kind}
 use Rattle.recording.specs.Causes.{refusal}
 use Rattle.translation.specs.Contents.{Contents, contents}
 use Rattle.translation.specs.Translate.{newEvents, follows, fromExclusive, fromCasdep, newLink, translated}

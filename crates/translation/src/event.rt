@@ -1,12 +1,12 @@
 // The events of the translation of a source file that loads: their numbers, their chain, and their records.
 
-use recording::field;
+use layout::field;
 ghost use mathlib.Core.Path.{_≡_};
 ghost use mathlib.Core.Bool.{_&&_};
 ghost use Prim.Native.Nat.{_+_, _≤_, _<_};
 ghost use lib.Dec.{eqb};
 ghost use Rattle.relation.specs.Rel.{count};
-ghost use Rattle.recording.specs.Layout.{eventByte};
+ghost use Rattle.layout.specs.Layout.{eventByte};
 ghost use Rattle.translation.specs.Contents.{contents};
 ghost use Rattle.translation.specs.Translate.{strong, inserted, newEvents, fenced, after, keptOr, newMode, newFlag};
 ghost use Rattle.translation.specs.Parts.{Source, NewEvent};

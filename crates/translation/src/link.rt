@@ -1,14 +1,14 @@
 // The links of the translation of a source file that loads, as rows of sources by target and type, and how many there are.
 
 use crate::event;
-use recording::field;
-use recording::graph;
+use layout::field;
+use reading::graph;
 use relation::grid;
 use relation::row;
 ghost use mathlib.Core.Path.{_≡_};
 ghost use Prim.Native.Nat.{_*_, _≤_, _<_};
 ghost use Rattle.relation.specs.Bits.{bit, edge};
-ghost use Rattle.recording.specs.Layout.{events};
+ghost use Rattle.layout.specs.Layout.{events};
 ghost use Rattle.translation.specs.Contents.{contents};
 ghost use Rattle.translation.specs.Translate.{newEvents, controlled};
 ghost use Rattle.translation.specs.Encode.{linksBefore, linksUpTo};

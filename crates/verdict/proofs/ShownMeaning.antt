@@ -9,6 +9,7 @@ use native.Mathlib.Omega.{arith}
 use lib.Dec.{T}
 use Rattle.relation.specs.Rel.{Set, Rel, some, least, diagonal, plus, nodes}
 use Rattle.relation.specs.Order.{EachOnce}
+use Rattle.relation.proofs.Truth.{holds}
 use Rattle.relation.proofs.SetLaws.{least-is, least-lt}
 use Rattle.relation.proofs.Meaning.{Steps, one, more, mem-below, below-mem, some-sound, some-complete, plus-sound}
 use Rattle.relation.proofs.Walks.{Inside}
@@ -25,9 +26,6 @@ use Rattle.verdict.specs.Answer.{answers}
 use Rattle.verdict.specs.Shown.{firstOf, secondOf, events, Shown}
 use Rattle.verdict.proofs.PairLaws.{fails}
 use Rattle.verdict.proofs.ShownLaws.{nth}
-
-holds : (b : Bool) → b ≡ true → T b
-holds b e = subst T (sym e) tt
 
 first-from : (n : ℕ) (bs : List Bool) → (first n bs ≡ 0) ⊎ (n ≤ first n bs)
 unfolding first

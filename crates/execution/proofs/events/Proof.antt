@@ -2,7 +2,7 @@
 use mathlib.Core.Path.{ap₂, _∙_}
 use Rattle.relation.specs.Rel.{union}
 use Rattle.models.specs.Recording.{event}
-use Rattle.recording.specs.Decode.{decode}
+use Rattle.layout.specs.Decode.{decode}
 use Rattle.recording.proofs.Loaded.{loaded-sized}
 use borrow.Author.Needs.{needs}
 use Rattle.execution.proofs.events.Statement.{statement}

@@ -1,14 +1,14 @@
 -- `relations` meets its contract, place by place.
 use native.Mathlib.Omega.{arith}
 use Rattle.models.specs.Graph.{base}
-use Rattle.recording.proofs.Loaded.{loaded-sized, loaded-readable, loaded-legal, loaded-threads}
+use Rattle.recording.proofs.Loaded.{loaded-sized, loaded-readable, loaded-located, loaded-threads}
 use Rattle.execution.proofs.BaseOf.{links-of}
 use borrow.Author.Needs.{needs}
 use Rattle.execution.proofs.relations.Statement.{statement}
 use Rattle.execution.proofs.relations.Tie as tie
 
 same-location-requires : tie.Need-same-location-requires
-same-location-requires c κs = search (needs, loaded-sized, loaded-legal)
+same-location-requires c κs = search (needs, loaded-sized, loaded-located)
 
 program-order-requires : tie.Need-program-order-requires
 program-order-requires c κs = search (needs, loaded-sized, loaded-threads)

@@ -2,9 +2,9 @@
 use mathlib.Core.Path.{_≡_, refl, ap₂, _∙_}
 use Rattle.relation.specs.Rel.{union}
 use Rattle.models.specs.Recording.{event, acquireFence, releaseFence, R, W, F, Racq, Rex, Wrel, Wstrong, Facq, Frel, Fsc, Fld, Fsy}
-use Rattle.recording.specs.Decode.{decode}
+use Rattle.layout.specs.Decode.{decode}
 use Rattle.recording.proofs.Loaded.{loaded-sized}
-use Rattle.recording.proofs.SortLaws.{all-recorded, class-recorded, sorted-class, sorted-writes, sorted-mode, sorted-flag, union-three}
+use Rattle.reading.proofs.SortLaws.{all-recorded, class-recorded, sorted-class, sorted-writes, sorted-mode, sorted-flag, union-three}
 use borrow.Author.Needs.{needs}
 use Rattle.execution.proofs.sets.Statement.{statement}
 use Rattle.execution.proofs.sets.Tie as tie

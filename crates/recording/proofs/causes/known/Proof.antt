@@ -1,8 +1,8 @@
 -- `causes::known` meets its contract.
 use mathlib.Core.Path.{refl}
 use borrow.Author.Tests.{eq-eqb, ne-eqb}
-use Rattle.recording.specs.Layout.{kindKnown}
-use Rattle.recording.proofs.FieldLaws.{or-yes, or-no}
+use Rattle.layout.specs.Layout.{kindKnown}
+use Rattle.layout.proofs.FieldLaws.{or-yes, or-no}
 use Rattle.recording.proofs.causes.known.Statement.{statement}
 use Rattle.recording.proofs.causes.known.Tie as tie
 

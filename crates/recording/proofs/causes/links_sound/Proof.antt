@@ -7,11 +7,12 @@ use borrow.Author.Tests.{not-true, not-false}
 use Rattle.relation.specs.Bits.{edge}
 use Rattle.relation.specs.Rel.{nodes}
 use Rattle.models.specs.Graph.{base}
-use Rattle.recording.specs.Decode.{decode}
-use Rattle.recording.specs.Layout.{events}
-use Rattle.recording.specs.Chains.{each}
-use Rattle.recording.specs.Causes.{linksSoundAt, Chained}
-use Rattle.recording.proofs.ChainLaws.{each-more, each-fails, each-done}
+use Rattle.layout.specs.Layout.{events}
+use Rattle.layout.specs.Chains.{each}
+use Rattle.layout.specs.Decode.{decode}
+use Rattle.reading.specs.Readable.{Chained}
+use Rattle.recording.specs.Causes.{linksSoundAt}
+use Rattle.layout.proofs.ChainLaws.{each-more, each-fails, each-done}
 use borrow.Author.Needs.{needs}
 use Rattle.recording.proofs.causes.links_sound.Statement.{statement}
 use Rattle.recording.proofs.causes.links_sound.Tie as tie

@@ -1,6 +1,6 @@
 -- `causes::most_events` meets its contract.
 use mathlib.Core.Path.{sym, _∙_}
-use Rattle.recording.specs.Layout.{mostEvents}
+use Rattle.layout.specs.Layout.{mostEvents}
 use borrow.Author.Needs.{needs}
 use Rattle.recording.proofs.causes.most_events.Statement.{statement}
 use Rattle.recording.proofs.causes.most_events.Tie as tie

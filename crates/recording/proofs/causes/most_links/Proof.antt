@@ -1,6 +1,6 @@
 -- `causes::most_links` meets its contract.
 use mathlib.Core.Path.{sym, _∙_}
-use Rattle.recording.specs.Layout.{mostLinks}
+use Rattle.layout.specs.Layout.{mostLinks}
 use borrow.Author.Needs.{needs}
 use Rattle.recording.proofs.causes.most_links.Statement.{statement}
 use Rattle.recording.proofs.causes.most_links.Tie as tie

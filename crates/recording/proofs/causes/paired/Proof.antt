@@ -4,10 +4,11 @@ use mathlib.Core.Bool.{true}
 use Prim.Native.Nat.{ℕ, _-_, _≤_}
 use native.Mathlib.Omega.{arith}
 use borrow.Author.Tests.{not-true, not-false}
-use Rattle.recording.specs.Layout.{events}
-use Rattle.recording.specs.Chains.{each}
-use Rattle.recording.specs.Causes.{pairedAt, Readable}
-use Rattle.recording.proofs.ChainLaws.{each-more, each-fails, each-done}
+use Rattle.layout.specs.Layout.{events}
+use Rattle.layout.specs.Chains.{each}
+use Rattle.reading.specs.Readable.{Readable}
+use Rattle.recording.specs.Causes.{pairedAt}
+use Rattle.layout.proofs.ChainLaws.{each-more, each-fails, each-done}
 use borrow.Author.Needs.{needs}
 use Rattle.recording.proofs.causes.paired.Statement.{statement}
 use Rattle.recording.proofs.causes.paired.Tie as tie

@@ -2,7 +2,7 @@
 use mathlib.Core.Path.{refl, sym, ap, _∙_}
 use mathlib.Core.Bool.{not}
 use borrow.Author.Tests.{eq-eqb, ne-eqb, not-true, not-false}
-use Rattle.recording.proofs.FieldLaws.{and-yes, and-no}
+use Rattle.layout.proofs.FieldLaws.{and-yes, and-no}
 use Rattle.recording.proofs.LegalLaws.{not-recorded, is-recorded-and}
 use borrow.Author.Needs.{needs}
 use Rattle.recording.proofs.legal.another.Statement.{statement}

@@ -1,7 +1,7 @@
 -- `legal::between` meets its contract.
 use mathlib.Core.Path.{refl}
 use borrow.Author.Tests.{le-leb, lt-leb}
-use Rattle.recording.proofs.FieldLaws.{and-yes, and-no}
+use Rattle.layout.proofs.FieldLaws.{and-yes, and-no}
 use Rattle.recording.proofs.legal.between.Statement.{statement}
 use Rattle.recording.proofs.legal.between.Tie as tie
 

@@ -1,7 +1,7 @@
 -- `legal::both_zero` meets its contract.
 use mathlib.Core.Path.{refl}
 use borrow.Author.Tests.{eq-eqb, ne-eqb}
-use Rattle.recording.proofs.FieldLaws.{and-yes, and-no}
+use Rattle.layout.proofs.FieldLaws.{and-yes, and-no}
 use Rattle.recording.proofs.legal.both_zero.Statement.{statement}
 use Rattle.recording.proofs.legal.both_zero.Tie as tie
 

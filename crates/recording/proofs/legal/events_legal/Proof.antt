@@ -4,10 +4,10 @@ use mathlib.Core.Bool.{true}
 use Prim.Native.Nat.{ℕ, _-_, _≤_}
 use native.Mathlib.Omega.{arith}
 use borrow.Author.Tests.{not-true, not-false}
-use Rattle.recording.specs.Layout.{Sized, events}
-use Rattle.recording.specs.Chains.{each}
+use Rattle.layout.specs.Layout.{Sized, events}
+use Rattle.layout.specs.Chains.{each}
 use Rattle.recording.specs.Causes.{eventLegal}
-use Rattle.recording.proofs.ChainLaws.{each-more, each-fails, each-done}
+use Rattle.layout.proofs.ChainLaws.{each-more, each-fails, each-done}
 use borrow.Author.Needs.{needs}
 use Rattle.recording.proofs.legal.events_legal.Statement.{statement}
 use Rattle.recording.proofs.legal.events_legal.Tie as tie

@@ -1,5 +1,5 @@
 -- `legal::exclusive_to_write` meets its contract: its definition, test by test.
-use Rattle.recording.proofs.FieldLaws.{and-yes, and-no}
+use Rattle.layout.proofs.FieldLaws.{and-yes, and-no}
 use borrow.Author.Needs.{needs}
 use Rattle.recording.proofs.legal.exclusive_to_write.Statement.{statement}
 use Rattle.recording.proofs.legal.exclusive_to_write.Tie as tie

@@ -1,7 +1,7 @@
 -- `legal::fence_legal` meets its contract.
 use mathlib.Core.Path.{refl}
 use Rattle.recording.specs.Causes.{fenceLegal}
-use Rattle.recording.proofs.FieldLaws.{and-yes, and-no}
+use Rattle.layout.proofs.FieldLaws.{and-yes, and-no}
 use borrow.Author.Needs.{needs}
 use Rattle.recording.proofs.legal.fence_legal.Statement.{statement}
 use Rattle.recording.proofs.legal.fence_legal.Tie as tie

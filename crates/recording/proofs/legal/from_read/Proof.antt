@@ -1,7 +1,7 @@
 -- `legal::from_read` meets its contract.
 use mathlib.Core.Path.{sym, _∙_}
 use Rattle.recording.specs.Causes.{fromRead}
-use Rattle.recording.proofs.FieldLaws.{and-yes, and-no, class-small}
+use Rattle.layout.proofs.FieldLaws.{and-yes, and-no, class-small}
 use borrow.Author.Needs.{needs}
 use Rattle.recording.proofs.legal.from_read.Statement.{statement}
 use Rattle.recording.proofs.legal.from_read.Tie as tie

@@ -1,7 +1,7 @@
 -- `legal::is_next` meets its contract.
 use mathlib.Core.Path.{sym, _∙_}
 use borrow.Author.Tests.{not-true, not-false}
-use Rattle.recording.proofs.FieldLaws.{recorded-bounds}
+use Rattle.layout.proofs.FieldLaws.{recorded-bounds}
 use Rattle.recording.proofs.LegalLaws.{next-no, next-none, next-yes}
 use borrow.Author.Needs.{needs}
 use Rattle.recording.proofs.legal.is_next.Statement.{statement}

@@ -1,6 +1,6 @@
 -- `legal::is_source` meets its contract.
 use mathlib.Core.Path.{refl}
-use Rattle.recording.specs.Layout.{isSource}
+use Rattle.layout.specs.Layout.{isSource}
 use Rattle.recording.proofs.legal.is_source.Statement.{statement}
 use Rattle.recording.proofs.legal.is_source.Tie as tie
 

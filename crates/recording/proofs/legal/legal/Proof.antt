@@ -1,6 +1,6 @@
 -- `legal::legal` meets its contract, by class.
 use mathlib.Core.Path.{refl}
-use Rattle.recording.proofs.FieldLaws.{and-yes, and-no}
+use Rattle.layout.proofs.FieldLaws.{and-yes, and-no}
 use Rattle.recording.proofs.LegalLaws.{legal-read, legal-write, legal-fence, legal-other}
 use borrow.Author.Needs.{needs}
 use Rattle.recording.proofs.legal.legal.Statement.{statement}

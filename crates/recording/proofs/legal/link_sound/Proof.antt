@@ -3,9 +3,9 @@ use mathlib.Core.Path.{ap, sym, subst, _∙_}
 use Prim.Native.Nat.{ℕ, _<_}
 use Rattle.relation.specs.Rel.{nodes}
 use Rattle.models.specs.Graph.{base}
-use Rattle.recording.specs.Decode.{decode}
+use Rattle.layout.specs.Decode.{decode}
 use Rattle.recording.specs.Causes.{linkSound}
-use Rattle.recording.proofs.FieldLaws.{and-yes, and-no, is-number}
+use Rattle.layout.proofs.FieldLaws.{and-yes, and-no, is-number}
 use Rattle.recording.proofs.LegalLaws.{link-read}
 use borrow.Author.Needs.{needs}
 use Rattle.recording.proofs.legal.link_sound.Statement.{statement}

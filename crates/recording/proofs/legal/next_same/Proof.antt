@@ -1,5 +1,5 @@
 -- `legal::next_same` meets its contract: its definition, test by test.
-use Rattle.recording.proofs.FieldLaws.{and-yes, and-no}
+use Rattle.layout.proofs.FieldLaws.{and-yes, and-no}
 use borrow.Author.Needs.{needs}
 use Rattle.recording.proofs.legal.next_same.Statement.{statement}
 use Rattle.recording.proofs.legal.next_same.Tie as tie

@@ -2,7 +2,7 @@
 use mathlib.Core.Path.{refl}
 use borrow.Author.Tests.{le-leb, lt-leb}
 use Rattle.recording.specs.Causes.{readLegal}
-use Rattle.recording.proofs.FieldLaws.{and-yes, and-no}
+use Rattle.layout.proofs.FieldLaws.{and-yes, and-no}
 use Rattle.recording.proofs.legal.read_legal.Statement.{statement}
 use Rattle.recording.proofs.legal.read_legal.Tie as tie
 

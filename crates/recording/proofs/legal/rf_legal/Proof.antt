@@ -1,6 +1,6 @@
 -- `legal::rf_legal` meets its contract: its definition, test by test.
 use Rattle.recording.specs.Causes.{rfLegal}
-use Rattle.recording.proofs.FieldLaws.{and-yes, and-no}
+use Rattle.layout.proofs.FieldLaws.{and-yes, and-no}
 use borrow.Author.Needs.{needs}
 use Rattle.recording.proofs.legal.rf_legal.Statement.{statement}
 use Rattle.recording.proofs.legal.rf_legal.Tie as tie

@@ -1,7 +1,7 @@
 -- `legal::same_value` meets its contract.
 use mathlib.Core.Path.{ap₂}
 use lib.Dec.{eqb}
-use Rattle.recording.proofs.FieldLaws.{and-yes, and-no}
+use Rattle.layout.proofs.FieldLaws.{and-yes, and-no}
 use borrow.Author.Needs.{needs}
 use Rattle.recording.proofs.legal.same_value.Statement.{statement}
 use Rattle.recording.proofs.legal.same_value.Tie as tie

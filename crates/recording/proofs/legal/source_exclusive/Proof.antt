@@ -1,6 +1,6 @@
 -- `legal::source_exclusive` meets its contract: its definition, test by test.
 use native.Mathlib.Omega.{arith}
-use Rattle.recording.proofs.FieldLaws.{and-yes, and-no}
+use Rattle.layout.proofs.FieldLaws.{and-yes, and-no}
 use borrow.Author.Needs.{needs}
 use Rattle.recording.proofs.legal.source_exclusive.Statement.{statement}
 use Rattle.recording.proofs.legal.source_exclusive.Tie as tie

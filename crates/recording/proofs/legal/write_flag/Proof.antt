@@ -1,7 +1,7 @@
 -- `legal::write_flag` meets its contract.
 use mathlib.Core.Path.{refl, sym, _∙_}
 use borrow.Author.Tests.{eq-eqb, ne-eqb}
-use Rattle.recording.proofs.FieldLaws.{and-yes, and-no, or-yes, or-no}
+use Rattle.layout.proofs.FieldLaws.{and-yes, and-no, or-yes, or-no}
 use borrow.Author.Needs.{needs}
 use Rattle.recording.proofs.legal.write_flag.Statement.{statement}
 use Rattle.recording.proofs.legal.write_flag.Tie as tie

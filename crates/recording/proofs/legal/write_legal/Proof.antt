@@ -1,6 +1,6 @@
 -- `legal::write_legal` meets its contract.
 use Rattle.recording.specs.Causes.{writeLegal}
-use Rattle.recording.proofs.FieldLaws.{and-yes, and-no}
+use Rattle.layout.proofs.FieldLaws.{and-yes, and-no}
 use borrow.Author.Needs.{needs}
 use Rattle.recording.proofs.legal.write_legal.Statement.{statement}
 use Rattle.recording.proofs.legal.write_legal.Tie as tie

@@ -1,7 +1,7 @@
 -- `legal::write_mode` meets its contract.
 use mathlib.Core.Path.{refl}
 use borrow.Author.Tests.{eq-eqb, ne-eqb}
-use Rattle.recording.proofs.FieldLaws.{or-yes, or-no}
+use Rattle.layout.proofs.FieldLaws.{or-yes, or-no}
 use Rattle.recording.proofs.legal.write_mode.Statement.{statement}
 use Rattle.recording.proofs.legal.write_mode.Tie as tie
 

@@ -8,14 +8,15 @@ use lib.Bits.{mask-lt}
 use Rattle.relation.specs.Bits.{bit, edge}
 use Rattle.relation.specs.Rel.{nodes}
 use Rattle.models.specs.Graph.{base}
-use Rattle.recording.specs.Layout.{events}
-use Rattle.recording.specs.Chains.{follow}
-use Rattle.recording.specs.Decode.{decode}
-use Rattle.recording.specs.Causes.{linkSound, linksSoundAt, within, Chained}
-use Rattle.recording.proofs.FieldLaws.{and-yes, and-no}
-use Rattle.recording.proofs.ChainLaws.{follow-end, follow-none}
+use Rattle.layout.specs.Layout.{events}
+use Rattle.layout.specs.Chains.{follow}
+use Rattle.layout.specs.Decode.{decode}
+use Rattle.reading.specs.Readable.{within, Chained}
+use Rattle.recording.specs.Causes.{linkSound, linksSoundAt}
+use Rattle.layout.proofs.FieldLaws.{and-yes, and-no}
+use Rattle.layout.proofs.ChainLaws.{follow-end, follow-none}
 use Rattle.recording.proofs.CauseLaws.{sound-readable}
-use Rattle.recording.proofs.LinkLaws.{Along, Taken, within-le, readable-lt, row-of-source, moved-link, along-start, along-done, along-head, along-fails, along-on, taken-start, taken-with, taken-keep, taken-done}
+use Rattle.reading.proofs.LinkLaws.{Along, Taken, within-le, readable-lt, row-of-source, moved-link, along-start, along-done, along-head, along-fails, along-on, taken-start, taken-with, taken-keep, taken-done}
 use borrow.Author.Needs.{needs}
 use Rattle.recording.proofs.links.sound_into.Statement.{statement}
 use Rattle.recording.proofs.links.sound_into.Tie as tie

@@ -1,7 +1,7 @@
 -- `link::target_row` meets its contract, by cases.
 use mathlib.Core.Path.{sym, _∙_}
 use borrow.Author.Tests.{not-true, not-false}
-use Rattle.recording.proofs.FieldLaws.{recorded-bounds}
+use Rattle.layout.proofs.FieldLaws.{recorded-bounds}
 use Rattle.translation.proofs.SourceFacts.{sized}
 use Rattle.translation.proofs.LinkRows.{old-new, exclusive-old, exclusive-none, exclusive-some, after-none, after-some}
 use borrow.Author.Needs.{needs}

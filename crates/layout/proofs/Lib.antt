@@ -1,0 +1,4 @@
+-- Laws of the layout.
+pub mod FieldLaws
+pub mod ChainLaws
+pub mod ChainFacts
