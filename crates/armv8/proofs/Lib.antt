@@ -1,2 +1,2 @@
 -- The theorem of `armv8`.
-pub mod AllShown
+pub mod Armv8ShowsAll

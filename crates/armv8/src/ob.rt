@@ -2,10 +2,10 @@
 // Each contract holds for every base that the arguments are taken from.
 
 use relation::grid;
+use relation::grid::Grid;
+use relation::row::Row;
 use verdict::base;
-use verdict::base::Grid;
 use verdict::base::Relations;
-use verdict::base::Row;
 use verdict::base::Sets;
 ghost use mathlib.Core.Path.{_≡_};
 ghost use Rattle.relation.specs.Rel.{nodes};

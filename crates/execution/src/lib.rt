@@ -3,7 +3,9 @@
 use reading::graph;
 use reading::sets;
 use relation::grid;
+use relation::grid::Grid;
 use relation::row;
+use relation::row::Row;
 ghost use mathlib.Core.Path.{_≡_};
 ghost use Rattle.relation.specs.Bits.{bit, edge};
 ghost use Rattle.relation.specs.Rel.{nodes};
@@ -14,7 +16,7 @@ ghost use Rattle.recording.specs.Causes.{refusal};
 ghost use Rattle.execution.specs.Arrays.{SetsOf, RelationsOf};
 
 // All events.
-pub fn events(file: &[u8]) -> [u8; 8]
+pub fn events(file: &[u8]) -> Row
     requires { ⌜ refusal (now file) ≡ 0 ⌝ }
     ensures { λ r. ⌜ bit r ≡ event (decode (now (file .entry))) ⌝ }
 {
@@ -23,7 +25,7 @@ pub fn events(file: &[u8]) -> [u8; 8]
 
 // The sets: all events, initial writes, reads, writes, fences, acquire and exclusive reads, release and strong writes,
 // acquire, release and SC fences, dmb ld and dmb sy.
-pub fn sets(file: &[u8]) -> [[u8; 8]; 14]
+pub fn sets(file: &[u8]) -> [Row; 14]
     requires { ⌜ refusal (now file) ≡ 0 ⌝ }
     ensures { λ r. ⌜ SetsOf (decode (now (file .entry))) r ⌝ }
 {
@@ -56,7 +58,7 @@ pub fn sets(file: &[u8]) -> [[u8; 8]; 14]
 }
 
 // Control dependencies: the links, taken on to all events later in program order.
-pub fn control(file: &[u8], po: [[u8; 8]; 64], links: [[u8; 8]; 64]) -> [[u8; 8]; 64]
+pub fn control(file: &[u8], po: Grid, links: Grid) -> Grid
     requires { ⌜ (refusal (now file) ≡ 0) × (edge po ≡ base nodes (decode (now file)) .po) × (edge links ≡ decode (now file) .link 6) ⌝ }
     ensures { λ r. ⌜ edge r ≡ base nodes (decode (now (file .entry))) .ctrl ⌝ }
 {
@@ -64,7 +66,7 @@ pub fn control(file: &[u8], po: [[u8; 8]; 64], links: [[u8; 8]; 64]) -> [[u8; 8]
 }
 
 // The relations: same location, program order, rf, co, rmw, data, addr, ctrl, casdep.
-pub fn relations(file: &[u8]) -> [[[u8; 8]; 64]; 9]
+pub fn relations(file: &[u8]) -> [Grid; 9]
     requires { ⌜ refusal (now file) ≡ 0 ⌝ }
     ensures { λ r. ⌜ RelationsOf (base nodes (decode (now (file .entry)))) r ⌝ }
 {

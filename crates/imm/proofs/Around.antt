@@ -13,7 +13,7 @@ use lib.ListN.{length, getD, List·getD-eq-default}
 use Rattle.relation.specs.Rel.{Set, Rel, union, difference, either, minus, identity, optional, plus, nodes}
 use Rattle.relation.specs.Ring.{after, closed, under, Ring}
 use Rattle.relation.proofs.SetLaws.{and-false}
-use Rattle.relation.proofs.Meaning.{Mem, and-left, and-right, and-both, or-either, or-left, or-right, chain-sound, chain-complete}
+use Rattle.relation.proofs.Meaning.{Mem, and-left, and-right, and-both, or-either, or-left, or-right, compose-sound, compose-complete}
 use Rattle.relation.proofs.Walks.{Inside}
 use Rattle.relation.proofs.RingMeaning.{plus-closed}
 use Rattle.models.specs.Graph.{Base}
@@ -38,15 +38,15 @@ unfolding closed either union
 closed-within r e f sub x p =
     elim (or-either (e x x) _ p) [
       | inl h ↦ or-left (f x x) _ (sub x x h)
-      | inr h ↦ let (y, m, a, b) = chain-sound nodes (plus nodes r) e x x h in
-          or-right (f x x) _ (chain-complete nodes (plus nodes r) f x y x m a (sub y x b))
+      | inr h ↦ let (y, m, a, b) = compose-sound nodes (plus nodes r) e x x h in
+          or-right (f x x) _ (compose-complete nodes (plus nodes r) f x y x m a (sub y x b))
     ]
 
 -- hb ; eco? comes back to x: by steps alone, or by steps and an eco step from another event.
 pub around : (B : Base) → Inside (steps B) → (x : ℕ) → eval nodes (IMM .coherent) B x x ≡ true → (y : ℕ) × (closed (steps B) (closing B) y y ≡ true)
 unfolding steps closing apart closed eval optional either union identity
 around B inside x p =
-    let (y, m, a, b) = chain-sound nodes (plus nodes (steps B)) (optional (B .E) (eval nodes eco B)) x x p in (
+    let (y, m, a, b) = compose-sound nodes (plus nodes (steps B)) (optional (B .E) (eval nodes eco B)) x x p in (
       x,
       elim (ℕ-discrete y x) [
         | yes e ↦ by-steps (subst (λ (z : ℕ). plus nodes (steps B) x z ≡ true) e a)
@@ -61,7 +61,7 @@ around B inside x p =
     by-steps q = closed-within (steps B) (steps B) (closing B) (λ u v h. or-left (steps B u v) _ h) x (plus-closed (steps B) inside x q)
 
     by-eco : (y : ℕ) → Mem y nodes → plus nodes (steps B) x y ≡ true → apart (eval nodes eco B) y x ≡ true → closed (steps B) (closing B) x x ≡ true
-    by-eco y m a h = or-right (closing B x x) _ (chain-complete nodes (plus nodes (steps B)) (closing B) x y x m a (or-right (steps B y x) _ h))
+    by-eco y m a h = or-right (closing B x x) _ (compose-complete nodes (plus nodes (steps B)) (closing B) x y x m a (or-right (steps B y x) _ h))
 
 -- The closing step of a ring is po or sw, or it is eco and the ring has two or more events.
 not-apart : (r : Rel) (x y : ℕ) → x ≡ y → apart r x y ≡ false

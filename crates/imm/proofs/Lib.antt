@@ -1,3 +1,3 @@
 -- Laws that the proofs of `imm` cite, and its theorem.
 pub mod Around
-pub mod AllShown
+pub mod ImmShowsAll

@@ -11,10 +11,10 @@ use Rattle.recording.specs.Causes.{refusal}
 use Rattle.recording.specs.Load.{causeFor}
 use Rattle.recording.proofs.CauseLaws.{cause-goes-on}
 use Rattle.verdict.specs.declared.Verdict.{Verdict}
-use Rattle.translation.specs.Answer.{translation, cause, answer, translationOf, filled, outputOf}
+use Rattle.translation.specs.TranslationAnswer.{translation, cause, answer, translationOf, filled, outputOf}
 use Rattle.translation.specs.declared.Translation.{Translation}
 use Rattle.translation.specs.declared.Translation.the-variants.{Refused, Written}
-use Rattle.translation.proofs.CallLaws.{answer-written, answer-refused}
+use Rattle.translation.proofs.TranslationCall.{answer-written, answer-refused}
 use Rattle.translation.proofs.Theorems.{few-bytes}
 use Rattle.soundness.specs.Soundness.{LoadsAs}
 use Rattle.soundness.proofs.Proved.{soundness}

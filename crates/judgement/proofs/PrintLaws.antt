@@ -25,7 +25,7 @@ use Rattle.verdict.proofs.ShownMeaning.{answers-zero}
 use Rattle.execution.specs.OnFile.{OnFile}
 use Rattle.imm.specs.Judged as imm
 use Rattle.armv8.specs.Judged as armv8
-use Rattle.translation.specs.Answer.{translation}
+use Rattle.translation.specs.TranslationAnswer.{translation}
 use Rattle.lines.specs.Lines.{source, chip, lineOf}
 use Rattle.soundness.specs.Soundness.{immVerdict, armv8Verdict}
 use Rattle.soundness.proofs.Proved.{soundness}

@@ -12,7 +12,7 @@ use Rattle.verdict.specs.Shown.{events}
 use Rattle.execution.specs.OnFile.{OnRecording}
 use Rattle.imm.specs.Judged as imm
 use Rattle.armv8.specs.Judged as armv8
-use Rattle.translation.specs.Answer.{translation}
+use Rattle.translation.specs.TranslationAnswer.{translation}
 use Rattle.lines.specs.Lines.{source, chip, lineOf}
 
 -- v is the IMM verdict, or the ARMv8 verdict, on the recording of a file that loads.

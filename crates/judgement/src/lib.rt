@@ -12,7 +12,7 @@ ghost use Prim.Native.Nat.{ℕ, _≤_};
 ghost use Rattle.recording.specs.Load.{causeFor};
 ghost use Rattle.recording.specs.Input.{ReadOf};
 ghost use Rattle.verdict.specs.Answer.{answers};
-ghost use Rattle.translation.specs.Answer.{translation};
+ghost use Rattle.translation.specs.TranslationAnswer.{translation};
 ghost use Rattle.lines.specs.Put.{bytes};
 ghost use Rattle.judgement.specs.Judgement.{OnSource, OnChip, Prints};
 

@@ -1,4 +1,4 @@
 -- The litmus table, proved.
 pub mod Recorded
-pub mod Loading
-pub mod Proved
+pub mod EvaluatedLoading
+pub mod TableProved

@@ -14,7 +14,7 @@ use Rattle.models.specs.Recording.{Recording, event}
 use Rattle.models.specs.Graph.{base, Within}
 use Rattle.models.specs.Rules.{Model, verdict}
 use Rattle.models.proofs.Agree.{verdict-relist}
-use Rattle.models.proofs.Table.{tableVerdict, table-verdict}
+use Rattle.models.proofs.EvalTable.{tableVerdict, table-verdict}
 use Rattle.layout.specs.Layout.{eventByte}
 use Rattle.layout.specs.Chains.{nextEvent}
 use Rattle.layout.specs.Decode.{isRecorded, isInitial, recordOr, fieldOr, decode}

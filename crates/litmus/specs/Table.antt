@@ -3,7 +3,7 @@
 use mathlib.Core.Path.{_≡_}
 use mathlib.Core.List.{List, [], _∷_, List·Memᴰ}
 use Prim.Native.Nat.{ℕ}
-use Rattle.translation.specs.Answer.{translation}
+use Rattle.translation.specs.TranslationAnswer.{translation}
 use Rattle.soundness.specs.Soundness.{LoadsAs, immVerdict, armv8Verdict}
 
 -- The bytes of a source file; the verdict on it under IMM, and on its translation under ARMv8: 0 allowed, else the number of the broken rule.

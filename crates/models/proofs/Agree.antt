@@ -13,8 +13,8 @@ use Rattle.models.specs.Steps.{stay, step}
 use Rattle.models.specs.Graph.{Graph, Base, graph, base, Within}
 use Rattle.models.specs.Term.{Term, loc, po, rf, co, rmw, «data», addr, ctrl, casdep, ⟨_⟩, ⟨codom_⟩, _⨾_, _∪_, _∩_, _∖_, opt, _⁻¹, _⁺, ⟦_⟧, eval}
 use Rattle.models.specs.Rules.{Model, broken-pair, Rule1, Rule2, Rule3, Rule4, Rule5, Allowed, Verdict, allowed, broken1, broken2, broken3, broken4, broken5, first, unread, unordered, anywhere, failures, verdict}
-use Rattle.models.proofs.Tests.{and-intro, and-left, and-right, or-left, or-right, or-cases, T-cases, T-ext, some-intro, some-witness, Tests, either-tests, both-tests, minus-tests, inverse-tests, identity-tests, codomain-tests, chain-tests, optional-tests, plus-tests}
-use Rattle.models.proofs.Sets.{initial-event, recorded-event, member-event, access-event, same-first, same-second, CoStep, linked, initially, step-cases}
+use Rattle.models.proofs.Tests.{and-intro, and-left, and-right, or-left, or-right, or-cases, T-cases, T-ext, some-intro, some-witness, Tests, either-tests, both-tests, minus-tests, inverse-tests, identity-tests, codomain-tests, compose-tests, optional-tests, plus-tests}
+use Rattle.models.proofs.MemberLaws.{initial-event, recorded-event, member-event, access-event, same-first, same-second, CoStep, linked, initially, step-cases}
 
 -- Tests and a graph that agree on what a graph consists of.
 pub record Agrees (es : List ℕ) (B : Base) (G : Graph ℕ) : Type 0 where
@@ -72,7 +72,7 @@ module _ (es : List ℕ) (B : Base) (G : Graph ℕ) (g : Agrees es B G) where
   tests casdep = g .casdep
   tests ⟨ s ⟩ = identity-tests es (B .E) (g .listed) (B .set s) (G .set s) (λ e. g .sets s e .0) (λ e. g .sets s e .1) (g .set-events s)
   tests ⟨codom r ⟩ = codomain-tests es (B .E) (g .listed) (tests r)
-  tests (r ⨾ s) = chain-tests es (B .E) (g .listed) (tests r) (tests s)
+  tests (r ⨾ s) = compose-tests es (B .E) (g .listed) (tests r) (tests s)
   tests (r ∪ s) = either-tests es (B .E) (g .listed) (tests r) (tests s)
   tests (r ∩ s) = both-tests es (B .E) (g .listed) (tests r) (tests s)
   tests (r ∖ s) = minus-tests es (B .E) (g .listed) (tests r) (tests s)
@@ -279,7 +279,7 @@ module _ (es : List ℕ) (r : Recording ℕ) (w : Within es r) where
     rmw = link-tests 3;
     «data» = link-tests 4;
     addr = link-tests 5;
-    ctrl = chain-tests es (event r) (w .listed) (link-tests 6) (optional-tests es (event r) (w .listed) (λ e. T (event r e)) (λ e h. h) (λ e h. h) po-tests);
+    ctrl = compose-tests es (event r) (w .listed) (link-tests 6) (optional-tests es (event r) (w .listed) (λ e. T (event r e)) (λ e h. h) (λ e h. h) po-tests);
     casdep = link-tests 7;
   }
 

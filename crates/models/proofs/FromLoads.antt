@@ -8,7 +8,7 @@ use Rattle.models.specs.Steps.{Plus, one, cons, stay, step}
 use Rattle.models.specs.Graph.{graph}
 use Rattle.models.specs.Loads.{Loads}
 use Rattle.models.proofs.Closure.{join, reversed, comparable}
-use Rattle.models.proofs.Sets.{initial-event, recorded-event, event-cases, class-event, class-intro, class-apart, mode-class, flag-class, acquire-fence, release-fence, sc-release, access-cases, read-access, write-access, same-intro, same-first, same-second, same-location, CoStep, linked, initially, step-cases}
+use Rattle.models.proofs.MemberLaws.{initial-event, recorded-event, event-cases, class-event, class-intro, class-apart, mode-class, flag-class, acquire-fence, release-fence, sc-release, access-cases, read-access, write-access, same-intro, same-first, same-second, same-location, CoStep, linked, initially, step-cases}
 use Rattle.models.proofs.Formed.{Formed}
 
 module _ {E : Type 0} (r : Recording E) (l : Loads r) where

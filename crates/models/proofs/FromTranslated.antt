@@ -12,7 +12,7 @@ use Rattle.models.specs.Loads.{Loads}
 use Rattle.models.specs.Translated.{Control, kept, after-read, after-pair, after-casdep, Translated}
 use Rattle.models.proofs.Closure.{join, snoc, flat, mapped, unchained}
 use Rattle.models.proofs.Tests.{and-intro, and-left, and-right, T-cases}
-use Rattle.models.proofs.Sets.{initial-event, recorded-event, event-cases, class-event, class-is, class-intro, class-apart, mode-class, mode-is, mode-intro, flag-class, flag-is, flag-intro, release-fence, release-fence-mode, access-cases, read-access, write-access, access-event, same-intro, same-first, same-second, same-location, CoStep, linked, initially, step-cases, step-intro}
+use Rattle.models.proofs.MemberLaws.{initial-event, recorded-event, event-cases, class-event, class-is, class-intro, class-apart, mode-class, mode-is, mode-intro, flag-class, flag-is, flag-intro, release-fence, release-fence-mode, access-cases, read-access, write-access, access-event, same-intro, same-first, same-second, same-location, CoStep, linked, initially, step-cases, step-intro}
 use Rattle.models.proofs.FromLoads.{po-next, read-uninitial, rmw-next}
 use Rattle.models.proofs.Corresponds.{Corresponds}
 

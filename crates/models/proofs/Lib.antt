@@ -1,9 +1,9 @@
 -- Theorems of the models.
 pub mod Closure
 pub mod Tests
-pub mod Sets
+pub mod MemberLaws
 pub mod Agree
-pub mod Table
+pub mod EvalTable
 pub mod Formed
 pub mod Location
 pub mod Synced

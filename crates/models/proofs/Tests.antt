@@ -8,7 +8,7 @@ use native.Mathlib.Decide.{ℕ-discrete}
 use native.Mathlib.Nat.{not-suc-le-zero}
 use native.Mathlib.Omega.{arith}
 use lib.Dec.{T, eqb, eqb→eq, eqb-refl, T-not, not-T}
-use Rattle.relation.specs.Rel.{Set, Rel, union, intersection, difference, either, both, minus, inverse, identity, some, image, chain, through, plus, optional, below}
+use Rattle.relation.specs.Rel.{Set, Rel, union, intersection, difference, either, both, minus, inverse, identity, some, image, compose, through, plus, optional, below}
 use Rattle.models.specs.Steps.{Plus, one, cons, On, on, Opt, stay, step}
 use Rattle.models.proofs.Closure.{join, flat}
 
@@ -197,9 +197,9 @@ module _ (es : List ℕ) (s : Set) (listed : (e : ℕ) → T (s e) → List·Mem
       (λ e h. (let p = f .source (h .0) e (h .1) in some-intro es (λ i. s i && r i e) (listed (h .0) p) (and-intro (s (h .0)) (r (h .0) e) p (f .from (h .0) e (h .1)))))
       (λ e h. f .target (h .0) e (h .1))
 
-  pub chain-tests : {r t : Rel} {P Q : ℕ → ℕ → Type 0} → Tests s r P → Tests s t Q → Tests s (chain es r t) (λ a c. (b : ℕ) × P a b × Q b c)
-  unfolding chain image
-  chain-tests {r} {t} f g = record {
+  pub compose-tests : {r t : Rel} {P Q : ℕ → ℕ → Type 0} → Tests s r P → Tests s t Q → Tests s (compose es r t) (λ a c. (b : ℕ) × P a b × Q b c)
+  unfolding compose image
+  compose-tests {r} {t} f g = record {
     to = λ i j h. (let w = some-witness es (λ k. r i k && t k j) h in (w .0, f .to i (w .0) (and-left (r i (w .0)) (t (w .0) j) (w .1)), g .to (w .0) j (and-right (r i (w .0)) (t (w .0) j) (w .1))));
     from = λ i j h. some-intro es (λ k. r i k && t k j) (listed (h .0) (f .target i (h .0) (h .1))) (and-intro (r i (h .0)) (t (h .0) j) (f .from i (h .0) (h .1)) (g .from (h .0) j (h .2)));
     source = λ i j h. f .source i (h .0) (h .1);

@@ -6,7 +6,7 @@ use mathlib.Core.List.{List, List·Memᴰ}
 use mathlib.Core.Logic.{_⊎_}
 use Prim.Native.Nat.{ℕ}
 use lib.Dec.{T}
-use Rattle.relation.specs.Rel.{Set, Rel, either, chain, plus, optional}
+use Rattle.relation.specs.Rel.{Set, Rel, either, compose, plus, optional}
 use Rattle.models.specs.Recording.{Recording, event, SetName, member, sameLocation, coStep}
 use Rattle.models.specs.Steps.{Plus, Opt}
 
@@ -69,7 +69,7 @@ base es r =
       rmw = r .link 3;
       «data» = r .link 4;
       addr = r .link 5;
-      ctrl = chain es (r .link 6) (optional (event r) po);
+      ctrl = compose es (r .link 6) (optional (event r) po);
       casdep = r .link 7;
     }
 

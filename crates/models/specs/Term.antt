@@ -4,7 +4,7 @@
 use mathlib.Core.List.{List}
 use mathlib.Core.Logic.{_⊎_}
 use Prim.Native.Nat.{ℕ}
-use Rattle.relation.specs.Rel.{Rel, either, both, minus, inverse, identity, image, chain, plus, optional}
+use Rattle.relation.specs.Rel.{Rel, either, both, minus, inverse, identity, image, compose, plus, optional}
 use Rattle.models.specs.Steps.{Plus, On, Opt}
 use Rattle.models.specs.Recording.{SetName}
 use Rattle.models.specs.Graph.{Graph, Base}
@@ -95,7 +95,7 @@ eval es ctrl B = B .ctrl
 eval es casdep B = B .casdep
 eval es ⟨ s ⟩ B = identity (B .set s)
 eval es ⟨codom r ⟩ B = identity (image es (B .E) (eval es r B))
-eval es (r ⨾ s) B = chain es (eval es r B) (eval es s B)
+eval es (r ⨾ s) B = compose es (eval es r B) (eval es s B)
 eval es (r ∪ s) B = either (eval es r B) (eval es s B)
 eval es (r ∩ s) B = both (eval es r B) (eval es s B)
 eval es (r ∖ s) B = minus (eval es r B) (eval es s B)

@@ -1,2 +1,2 @@
 -- Laws that the proofs of `probe` share.
-pub mod CallLaws
+pub mod ProbeLaws

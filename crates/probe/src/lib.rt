@@ -13,7 +13,7 @@ ghost use Rattle.recording.specs.Causes.{refusal};
 ghost use Rattle.models.specs.Rules.{IMM, ARMv8};
 ghost use Rattle.imm.specs.Judged as imm;
 ghost use Rattle.armv8.specs.Judged as armv8;
-ghost use Rattle.translation.specs.Answer.{translationOf, outputOf};
+ghost use Rattle.translation.specs.TranslationAnswer.{translationOf, outputOf};
 ghost use Rattle.probe.specs.Calls.{coded, codedTranslation, Stored, Reported, Reports, Printed};
 
 // An answer: the number of the refusal, that of the broken rule, and how many bytes were written.

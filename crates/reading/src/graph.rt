@@ -5,7 +5,9 @@ use crate::sets;
 use crate::thread;
 use layout::field;
 use relation::grid;
+use relation::grid::Grid;
 use relation::row;
+use relation::row::Row;
 ghost use mathlib.Core.Path.{_≡_};
 ghost use mathlib.Core.Bool.{true};
 ghost use Prim.Native.Nat.{ℕ, _<_};
@@ -22,7 +24,7 @@ ghost use Rattle.reading.specs.Sets.{accessAt, Located, AccessRows, Sour
 
 // Program order: every initial write before every recorded event, and earlier to later in a thread.
 // Made from the last event of the line to the first: the row of what follows an event is done before its own.
-pub fn program_order(file: &[u8]) -> [[u8; 8]; 64]
+pub fn program_order(file: &[u8]) -> Grid
     requires { ⌜ Sized (now file) × (threadsSound (now file) ≡ true) ⌝ }
     ensures { λ r. ⌜ edge r ≡ base nodes (decode (now (file .entry))) .po ⌝ }
 {
@@ -43,7 +45,7 @@ pub fn program_order(file: &[u8]) -> [[u8; 8]; 64]
 }
 
 // The sources of the links of type t into b, where b need be no event.
-pub fn sources_of(file: &[u8], b: usize, t: usize) -> [u8; 8]
+pub fn sources_of(file: &[u8], b: usize, t: usize) -> Row
     requires { ⌜ Readable (now file) ⌝ }
     ensures { λ r. ⌜ bit r ≡ inverse (decode (now (file .entry)) .link t) b ⌝ }
 {
@@ -54,7 +56,7 @@ pub fn sources_of(file: &[u8], b: usize, t: usize) -> [u8; 8]
 }
 
 // The sources of the links into b, with a row for each type below 8, where b need be no event.
-pub fn sources_by_type(file: &[u8], b: usize) -> [[u8; 8]; 8]
+pub fn sources_by_type(file: &[u8], b: usize) -> [Row; 8]
     requires { ⌜ Readable (now file) ⌝ }
     ensures { λ r. ⌜ SourcesInto (now (file .entry)) b r ⌝ }
 {
@@ -65,7 +67,7 @@ pub fn sources_by_type(file: &[u8], b: usize) -> [[u8; 8]; 8]
 }
 
 // The links of every type, with a row for each target; those of type t stand at place t.
-pub fn rows_by_type(file: &[u8]) -> [[[u8; 8]; 64]; 8]
+pub fn rows_by_type(file: &[u8]) -> [Grid; 8]
     requires { ⌜ Readable (now file) ⌝ }
     ensures { λ r. ⌜ LinkRows (now (file .entry)) r ⌝ }
 {
@@ -92,7 +94,7 @@ pub fn rows_by_type(file: &[u8]) -> [[[u8; 8]; 64]; 8]
 }
 
 // The links of type t, with a row for each target.
-pub fn link_rows(file: &[u8], t: usize) -> [[u8; 8]; 64]
+pub fn link_rows(file: &[u8], t: usize) -> Grid
     requires { ⌜ Readable (now file) ⌝ }
     ensures { λ r. ⌜ edge r ≡ inverse (decode (now (file .entry)) .link t) ⌝ }
 {
@@ -106,7 +108,7 @@ pub fn link_rows(file: &[u8], t: usize) -> [[u8; 8]; 64]
 }
 
 // The links of type t.
-pub fn links(file: &[u8], t: usize) -> [[u8; 8]; 64]
+pub fn links(file: &[u8], t: usize) -> Grid
     requires { ⌜ Readable (now file) ⌝ }
     ensures { λ r. ⌜ edge r ≡ decode (now (file .entry)) .link t ⌝ }
 {
@@ -129,7 +131,7 @@ pub fn place_of(file: &[u8], e: usize) -> usize
 }
 
 // The reads and writes of each location below 8.
-pub fn by_location(file: &[u8]) -> [[u8; 8]; 8]
+pub fn by_location(file: &[u8]) -> [Row; 8]
     requires { ⌜ Sized (now file) ⌝ }
     ensures { λ r. ⌜ AccessRows (now (file .entry)) r ⌝ }
 {
@@ -148,7 +150,7 @@ pub fn by_location(file: &[u8]) -> [[u8; 8]; 8]
 }
 
 // The reads and writes of the same location.
-pub fn same_location(file: &[u8]) -> [[u8; 8]; 64]
+pub fn same_location(file: &[u8]) -> Grid
     requires { ⌜ Sized (now file) × Located (now file) ⌝ }
     ensures { λ r. ⌜ edge r ≡ sameLocation (decode (now (file .entry))) ⌝ }
 {
@@ -167,7 +169,7 @@ pub fn same_location(file: &[u8]) -> [[u8; 8]; 64]
 }
 
 // What co follows from: its links, and initial before recorded writes of one location.
-pub fn co_steps(file: &[u8], links: [[u8; 8]; 64], location: [[u8; 8]; 64]) -> [[u8; 8]; 64]
+pub fn co_steps(file: &[u8], links: Grid, location: Grid) -> Grid
     requires { ⌜ Sized (now file) × (edge links ≡ decode (now file) .link 2) × (edge location ≡ sameLocation (decode (now file))) ⌝ }
     ensures { λ r. ⌜ edge r ≡ coStep (decode (now (file .entry))) ⌝ }
 {
@@ -177,7 +179,7 @@ pub fn co_steps(file: &[u8], links: [[u8; 8]; 64], location: [[u8; 8]; 64]) -> [
 }
 
 // Coherence order, from its links and from which events are of one location.
-pub fn coherence(file: &[u8], links: [[u8; 8]; 64], location: [[u8; 8]; 64]) -> [[u8; 8]; 64]
+pub fn coherence(file: &[u8], links: Grid, location: Grid) -> Grid
     requires { ⌜ Sized (now file) × (edge links ≡ decode (now file) .link 2) × (edge location ≡ sameLocation (decode (now file))) ⌝ }
     ensures { λ r. ⌜ edge r ≡ base nodes (decode (now (file .entry))) .co ⌝ }
 {

@@ -3,6 +3,7 @@
 use layout::chain::Cursor;
 use layout::field;
 use relation::row;
+use relation::row::Row;
 ghost use mathlib.Core.Path.{_≡_};
 ghost use mathlib.Core.Bool.{true};
 ghost use Prim.Native.Nat.{_≤_, _<_};
@@ -15,7 +16,7 @@ ghost use Rattle.reading.specs.Sets.{SourcesInto};
 ghost use Rattle.reading.specs.Readable.{readable};
 
 // The sources of the links of type t into b.
-pub fn sources(file: &[u8], b: usize, t: usize) -> [u8; 8]
+pub fn sources(file: &[u8], b: usize, t: usize) -> Row
     requires { ⌜ Sized (now file) × (1 ≤ b) × (b ≤ events (now file)) × (allOf (linksInto (now file) b) (readable (now file)) ≡ true) ⌝ }
     ensures { λ r. ⌜ bit r ≡ inverse (decode (now (file .entry)) .link t) b ⌝ }
 {
@@ -40,7 +41,7 @@ pub fn sources(file: &[u8], b: usize, t: usize) -> [u8; 8]
 }
 
 // The sources of the links into b, with a row for each type below 8.
-pub fn by_type(file: &[u8], b: usize) -> [[u8; 8]; 8]
+pub fn by_type(file: &[u8], b: usize) -> [Row; 8]
     requires { ⌜ Sized (now file) × (1 ≤ b) × (b ≤ events (now file)) × (allOf (linksInto (now file) b) (readable (now file)) ≡ true) ⌝ }
     ensures { λ r. ⌜ SourcesInto (now (file .entry)) b r ⌝ }
 {

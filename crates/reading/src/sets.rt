@@ -2,6 +2,7 @@
 
 use layout::field;
 use relation::row;
+use relation::row::Row;
 ghost use mathlib.Core.Path.{_≡_};
 ghost use Prim.Native.Nat.{_<_};
 ghost use Rattle.relation.specs.Bits.{bit};
@@ -10,7 +11,7 @@ ghost use Rattle.layout.specs.Decode.{isRecorded, isInitial};
 ghost use Rattle.reading.specs.Sets.{AllRecorded, SortedBy};
 
 // The recorded events.
-pub fn recorded(file: &[u8]) -> [u8; 8]
+pub fn recorded(file: &[u8]) -> Row
     requires { ⌜ Sized (now file) ⌝ }
     ensures { λ r. ⌜ bit r ≡ isRecorded (now (file .entry)) ⌝ }
 {
@@ -18,7 +19,7 @@ pub fn recorded(file: &[u8]) -> [u8; 8]
 }
 
 // The initial writes.
-pub fn initial(file: &[u8]) -> [u8; 8]
+pub fn initial(file: &[u8]) -> Row
     requires { ⌜ Sized (now file) ⌝ }
     ensures { λ r. ⌜ bit r ≡ isInitial (now (file .entry)) ⌝ }
 {
@@ -26,7 +27,7 @@ pub fn initial(file: &[u8]) -> [u8; 8]
 }
 
 // The events of a row by byte k of their records, with a row for each value below 8.
-pub fn sorted(file: &[u8], row: [u8; 8], k: usize) -> [[u8; 8]; 8]
+pub fn sorted(file: &[u8], row: Row, k: usize) -> [Row; 8]
     requires { ⌜ Sized (now file) × (k < 8) × AllRecorded (now file) (bit row) ⌝ }
     ensures { λ r. ⌜ SortedBy (now (file .entry)) (bit row) k r ⌝ }
 {

@@ -8,6 +8,7 @@ use layout::chain;
 use layout::field;
 use reading::graph;
 use relation::grid;
+use relation::grid::Grid;
 use relation::row;
 ghost use mathlib.Core.Path.{_≡_};
 ghost use mathlib.Core.Bool.{true, not};
@@ -25,7 +26,7 @@ ghost use Rattle.recording.specs.Causes.{linksSoundAt, pairedAt, headerO
 ghost use Rattle.recording.specs.Load.{headerOf, loadOf, numberOf, causeFor};
 
 // Whether all links are sound.
-pub fn links_sound(file: &[u8], po: [[u8; 8]; 64]) -> bool
+pub fn links_sound(file: &[u8], po: Grid) -> bool
     requires { ⌜ Chained (now file) × (edge po ≡ base nodes (decode (now file)) .po) ⌝ }
     ensures { λ r. ⌜ r ≡ each (events (now (file .entry))) (linksSoundAt (now (file .entry))) ⌝ }
 {

@@ -3,7 +3,9 @@
 use crate::legal;
 use layout::chain::Cursor;
 use layout::field;
+use relation::grid::Grid;
 use relation::row;
+use relation::row::Row;
 ghost use mathlib.Core.Path.{_≡_};
 ghost use Prim.Native.Nat.{ℕ, _≤_};
 ghost use Rattle.relation.specs.Bits.{bit, edge};
@@ -16,7 +18,7 @@ ghost use Rattle.reading.specs.Readable.{Chained};
 ghost use Rattle.recording.specs.Causes.{oneSource, linksSoundAt};
 
 // Whether a row, the rf sources of an event, has one member at most.
-pub fn one_source(row: [u8; 8]) -> bool
+pub fn one_source(row: Row) -> bool
     ensures { λ x. ⌜ ((r : Recording ℕ) (b : ℕ) → bit row ≡ inverse (r .link 1) b → x ≡ oneSource r b) ⌝ }
 {
     let a = row::first(row);
@@ -27,7 +29,7 @@ pub fn one_source(row: [u8; 8]) -> bool
 }
 
 // Whether the links into b are sound, and b has one rf source, where po is program order.
-pub fn sound_into(file: &[u8], po: [[u8; 8]; 64], b: usize) -> bool
+pub fn sound_into(file: &[u8], po: Grid, b: usize) -> bool
     requires { ⌜ Chained (now file) × (edge po ≡ base nodes (decode (now file)) .po) × (1 ≤ b) × (b ≤ events (now file)) ⌝ }
     ensures { λ r. ⌜ r ≡ linksSoundAt (now (file .entry)) b ⌝ }
 {

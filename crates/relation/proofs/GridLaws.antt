@@ -11,7 +11,7 @@ use borrow.Author.Tests.{eq-eqb, ne-eqb, lt-ltb, le-ltb}
 use lib.Dec.{eqb, ltb}
 use lib.ListN.{length, getD, set, replicate, length-set, List·getD-eq-default}
 use lib.Seq.{getD-set-same, getD-set-other}
-use Rattle.relation.specs.Rel.{Set, Rel, empty, none, single, given, pair, union, intersection, difference, either, inverse, identity, product, from, some, image, chain, through, plus, diagonal, below, nodes, least, Next}
+use Rattle.relation.specs.Rel.{Set, Rel, empty, none, single, given, pair, union, intersection, difference, either, inverse, identity, product, from, some, image, compose, through, plus, diagonal, below, nodes, least, Next}
 use Rattle.relation.specs.Bits.{bit, edge}
 use Rattle.relation.proofs.ByteLaws.{bit-none, bit-out, on-zero}
 use Rattle.relation.proofs.Meaning.{some-least}
@@ -377,12 +377,12 @@ product-out s t m p = sym (product-no s t m p)
 
 -- The diagonal of a ; b⁻¹: the events whose rows of a and b share a member.
 pub returning-at : (a b : List (List ℕ)) (i k : ℕ) (m : Set) → m ≡ intersection (bit (getD a i [])) (bit (getD b i [])) → k ≡ least 64 m
-    → ltb k 64 ≡ diagonal (chain nodes (edge a) (inverse (edge b))) i
-unfolding diagonal chain image inverse edge intersection
+    → ltb k 64 ≡ diagonal (compose nodes (edge a) (inverse (edge b))) i
+unfolding diagonal compose image inverse edge intersection
 returning-at a b i k m p q = ap (λ (x : ℕ). ltb x 64) q ∙ some-least m ∙ ap (some nodes) p
 
-pub returning-out : (a b : List (List ℕ)) → length a ≡ 64 → (i : ℕ) → 64 ≤ i → diagonal (chain nodes (edge a) (inverse (edge b))) i ≡ false
-unfolding diagonal chain empty
+pub returning-out : (a b : List (List ℕ)) → length a ≡ 64 → (i : ℕ) → 64 ≤ i → diagonal (compose nodes (edge a) (inverse (edge b))) i ≡ false
+unfolding diagonal compose empty
 returning-out a b l i h = ap (λ (s : Set). s i) (image-out nodes (edge a i) (inverse (edge b)) (edge-out a l i h))
 
 -- A relation that is given the other way round.
@@ -390,5 +390,5 @@ pub inverse-back : (b e : Rel) → b ≡ inverse e → inverse b ≡ e
 unfolding inverse
 inverse-back b e p = ap inverse p
 
-pub returning-by : (r b e : Rel) → b ≡ inverse e → diagonal (chain nodes r (inverse b)) ≡ diagonal (chain nodes r e)
-returning-by r b e p = ap (λ (c : Rel). diagonal (chain nodes r c)) (inverse-back b e p)
+pub returning-by : (r b e : Rel) → b ≡ inverse e → diagonal (compose nodes r (inverse b)) ≡ diagonal (compose nodes r e)
+returning-by r b e p = ap (λ (c : Rel). diagonal (compose nodes r c)) (inverse-back b e p)

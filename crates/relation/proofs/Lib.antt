@@ -11,3 +11,4 @@ pub mod OrderLaws
 pub mod RingMeaning
 pub mod WordLaws
 pub mod Counting
+pub mod ComposeLaws

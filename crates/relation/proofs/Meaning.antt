@@ -1,4 +1,4 @@
--- What the computed operators mean: `some` is "there is an event", `chain` is "there is an event between",
+-- What the computed operators mean: `some` is "there is an event", `compose` is "there is an event between",
 -- `plus` is one or more steps.
 use mathlib.Core.Path.{_≡_, refl, sym, subst, _∙_}
 use mathlib.Core.List.{List, [], _∷_}
@@ -9,7 +9,7 @@ use native.Mathlib.Omega.{arith}
 use native.Mathlib.Decide.{ℕ-discrete, decLt}
 use borrow.Author.Tests.{lt-ltb, le-ltb}
 use lib.Dec.{ltb}
-use Rattle.relation.specs.Rel.{Set, Rel, some, image, chain, through, plus, least, below, nodes}
+use Rattle.relation.specs.Rel.{Set, Rel, some, image, compose, through, plus, least, below, nodes}
 use Rattle.relation.proofs.SetLaws.{least-is, least-lt}
 
 -- An event of a list.
@@ -89,7 +89,7 @@ some-least s = go (some nodes s) refl
           | no h ↦ le-ltb (least 64 s) 64 (omega (arith, h)) ∙ sym p
         ]
 
--- `image` and `chain`: there is an event between.
+-- `image` and `compose`: there is an event between.
 pub image-sound : (es : List ℕ) (s : Set) (r : Rel) (y : ℕ) → image es s r y ≡ true → (x : ℕ) × Mem x es × (s x ≡ true) × (r x y ≡ true)
 unfolding image
 image-sound es s r y p =
@@ -100,14 +100,14 @@ pub image-complete : (es : List ℕ) (s : Set) (r : Rel) (x y : ℕ) → Mem x e
 unfolding image
 image-complete es s r x y m p q = some-complete es (λ i. s i && r i y) x m (and-both (s x) (r x y) p q)
 
-pub chain-sound : (es : List ℕ) (r s : Rel) (x z : ℕ) → chain es r s x z ≡ true
+pub compose-sound : (es : List ℕ) (r s : Rel) (x z : ℕ) → compose es r s x z ≡ true
     → (y : ℕ) × Mem y es × (r x y ≡ true) × (s y z ≡ true)
-unfolding chain
-chain-sound es r s x z p = image-sound es (r x) s z p
+unfolding compose
+compose-sound es r s x z p = image-sound es (r x) s z p
 
-pub chain-complete : (es : List ℕ) (r s : Rel) (x y z : ℕ) → Mem y es → r x y ≡ true → s y z ≡ true → chain es r s x z ≡ true
-unfolding chain
-chain-complete es r s x y z m p q = image-complete es (r x) s y z m p q
+pub compose-complete : (es : List ℕ) (r s : Rel) (x y z : ℕ) → Mem y es → r x y ≡ true → s y z ≡ true → compose es r s x z ≡ true
+unfolding compose
+compose-complete es r s x y z m p q = image-complete es (r x) s y z m p q
 
 -- Steps follow on steps.
 pub steps-join : {r : Rel} {x y z : ℕ} → Steps r x y → Steps r y z → Steps r x z

@@ -12,13 +12,13 @@ use borrow.Author.Tests.{lt-ltb, le-ltb}
 use lib.Dec.{eqb}
 use lib.ListN.{length, getD, set, take, length-set, List·getD-eq-default}
 use lib.Seq.{getD-set-same, getD-set-other, getD-take, length-take-le}
-use Rattle.relation.specs.Rel.{Set, Rel, empty, single, union, intersection, inverse, identity, image, chain, plus, either, diagonal, least, nodes}
+use Rattle.relation.specs.Rel.{Set, Rel, empty, single, union, intersection, inverse, identity, image, compose, plus, either, diagonal, least, nodes}
 use Rattle.relation.specs.Bits.{bit, edge}
 use Rattle.relation.specs.Ring.{under, power, after, closed, Ring, RingOrNone, Shortest, Levels, StepsBack, Way, SmallestAt, Turned, turnedTo}
 use Rattle.relation.proofs.ByteLaws.{bit-out}
 use Rattle.relation.proofs.SetLaws.{least-is, least-lt}
 use Rattle.relation.proofs.GridLaws.{inverse-back, Rows, rows-set}
-use Rattle.relation.proofs.Meaning.{and-left, and-right, and-both, or-either, mem-below, below-mem, image-sound, chain-sound, chain-complete, plus-sound}
+use Rattle.relation.proofs.Meaning.{and-left, and-right, and-both, or-either, mem-below, below-mem, image-sound, compose-sound, compose-complete, plus-sound}
 use Rattle.relation.proofs.Walks.{Inside, Walk, stay, go, walk-join, steps-walk, power-sound, power-complete, shorten, walk-zero}
 
 -- The row of one event is where every walk from it starts.
@@ -28,7 +28,7 @@ power-zero r s t u h p e =
     e ∙ fun-ext (λ j. ap (λ (f : Set). f j || eqb s j) p ∙ ap (λ (b : Bool). b && eqb s j) (sym (lt-ltb s 64 h)))
 
 pub power-suc : (r : Rel) (s k : ℕ) (t u : Set) → t ≡ power k r s → u ≡ image nodes t r → u ≡ power (k + 1) r s
-unfolding power chain
+unfolding power compose
 power-suc r s k t u p e = rw (add-one k) (e ∙ ap (λ (f : Set). image nodes f r) p)
 
 -- The least of the events of s from which r leads to y.
@@ -112,7 +112,7 @@ back-all h b n x k y at w p =
 
 -- The levels of g from s, with its inverse.
 pub levels-lead : (r h b : Rel) (s : ℕ) → ((k : ℕ) → k < 64 → h k ≡ power k r s) → b ≡ inverse r → Levels h b
-unfolding power chain inverse
+unfolding power compose inverse
 levels-lead r h b s w p =
     record {
       leads = λ k q. w (suc k) q
@@ -121,8 +121,8 @@ levels-lead r h b s w p =
 
 -- The last event of a way: the least that n steps reach and that e closes.
 pub closing-pick : (r e h : Rel) (s n x : ℕ) (c : Set) → n < 64 → ((k : ℕ) → k < 64 → h k ≡ power k r s)
-    → chain nodes (power n r) e s s ≡ true → c ≡ intersection (h n) (inverse e s) → x ≡ least 64 c → Picked (h n) e s x
-unfolding chain
+    → compose nodes (power n r) e s s ≡ true → c ≡ intersection (h n) (inverse e s) → x ≡ least 64 c → Picked (h n) e s x
+unfolding compose
 closing-pick r e h s n x c hn w p q l = picked (h n) c e s x (rw (w n hn) p) q l
 
 pub way-of-steps : (r e h b : Rel) (s n x : ℕ) (at : List ℕ) → n < 64 → ((k : ℕ) → k < 64 → h k ≡ power k r s) → b ≡ inverse r
@@ -137,13 +137,13 @@ way-of-steps r e h b s n x at hn w p c t =
     }
 
 -- What a walk of n steps from s that e closes comes to.
-closes : (r e : Rel) → Inside r → (n s x : ℕ) → s < 64 → x < 64 → Walk r s n x → e x s ≡ true → chain nodes (power n r) e s s ≡ true
-closes r e i n s x hs hx w c = chain-complete nodes (power n r) e s x s (mem-below 64 x hx) (power-complete r i n s x hs w) c
+closes : (r e : Rel) → Inside r → (n s x : ℕ) → s < 64 → x < 64 → Walk r s n x → e x s ≡ true → compose nodes (power n r) e s s ≡ true
+closes r e i n s x hs hx w c = compose-complete nodes (power n r) e s x s (mem-below 64 x hx) (power-complete r i n s x hs w) c
 
 -- Where 64 steps are not enough to come back, no number is.
 pub none-back : (r e : Rel) → Inside r → Inside e → (n s : ℕ) → 64 ≤ n → Shortest r e n s → (i : ℕ) → closed r e i i ≡ false
 unfolding closed either union
-none-back r e ir ie n s h w i = go-by (e i i || chain nodes (plus nodes r) e i i) refl
+none-back r e ir ie n s h w i = go-by (e i i || compose nodes (plus nodes r) e i i) refl
   where
     short : (m x : ℕ) → m < 64 → i < 64 → Walk r i m x → e x i ≡ true → ⊥
     short m x hm hi a c =
@@ -152,14 +152,14 @@ none-back r e ir ie n s h w i = go-by (e i i || chain nodes (plus nodes r) e i i
     direct : e i i ≡ true → ⊥
     direct c = short zero i (omega arith) (ie .target i i c) stay c
 
-    around : chain nodes (plus nodes r) e i i ≡ true → ⊥
+    around : compose nodes (plus nodes r) e i i ≡ true → ⊥
     around p =
-        let (x, m, a, c) = chain-sound nodes (plus nodes r) e i i p in
+        let (x, m, a, c) = compose-sound nodes (plus nodes r) e i i p in
         let (k, u) = steps-walk (plus-sound nodes r i x a) in
         let (l, hl, v) = shorten r ir (suc k) (suc k) i x (omega arith) (ie .target x i c) u in
         short l x hl (ie .target x i c) v c
 
-    go-by : (b : Bool) → e i i || chain nodes (plus nodes r) e i i ≡ b → e i i || chain nodes (plus nodes r) e i i ≡ false
+    go-by : (b : Bool) → e i i || compose nodes (plus nodes r) e i i ≡ b → e i i || compose nodes (plus nodes r) e i i ≡ false
     go-by false p = p
     go-by true p = absurd (elim (or-either (e i i) _ p) [ inl c ↦ direct c | inr c ↦ around c ])
 
@@ -371,9 +371,9 @@ pub power-identity : (r p : Rel) (s : Set) → s ≡ under 64 → p ≡ identity
 unfolding power
 power-identity r p s a b = b ∙ ap identity a
 
-pub power-then : (r p q : Rel) (n : ℕ) → p ≡ power n r → q ≡ chain nodes p r → q ≡ power (n + 1) r
+pub power-then : (r p q : Rel) (n : ℕ) → p ≡ power n r → q ≡ compose nodes p r → q ≡ power (n + 1) r
 unfolding power
-power-then r p q n a b = rw (add-one n) (b ∙ ap (λ (f : Rel). chain nodes f r) a)
+power-then r p q n a b = rw (add-one n) (b ∙ ap (λ (f : Rel). compose nodes f r) a)
 
 -- Row k: what exactly k steps reach from s.
 unfoldable pub reached : Rel → ℕ → Rel
@@ -394,12 +394,12 @@ pub shortest-by : (r b e : Rel) (n s : ℕ) → b ≡ inverse e → Shortest r (
 shortest-by r b e n s p w = subst (λ (c : Rel). Shortest r c n s) (inverse-back b e p) w
 
 -- One round of `shortest`: an event that n steps and e bring back to itself, or none.
-module _ (r e p : Rel) (x : List ℕ) (n s : ℕ) (at-n : p ≡ power n r) (returning : bit x ≡ diagonal (chain nodes p e))
+module _ (r e p : Rel) (x : List ℕ) (n s : ℕ) (at-n : p ≡ power n r) (returning : bit x ≡ diagonal (compose nodes p e))
     (first : s ≡ least 64 (bit x)) where
-  on : bit x ≡ diagonal (chain nodes (power n r) e)
-  on = returning ∙ ap (λ (f : Rel). diagonal (chain nodes f e)) at-n
+  on : bit x ≡ diagonal (compose nodes (power n r) e)
+  on = returning ∙ ap (λ (f : Rel). diagonal (compose nodes f e)) at-n
 
-  pub round-found : n < 64 → s < 64 → ((m : ℕ) → m < n → (t : ℕ) → chain nodes (power m r) e t t ≡ false) → Shortest r e n s
+  pub round-found : n < 64 → s < 64 → ((m : ℕ) → m < n → (t : ℕ) → compose nodes (power m r) e t t ≡ false) → Shortest r e n s
   unfolding diagonal
   round-found h g fewer =
       record {
@@ -409,7 +409,7 @@ module _ (r e p : Rel) (x : List ℕ) (n s : ℕ) (at-n : p ≡ power n r) (retu
         fewest = fewer;
       }
 
-  pub round-none : 64 ≤ s → (t : ℕ) → chain nodes (power n r) e t t ≡ false
+  pub round-none : 64 ≤ s → (t : ℕ) → compose nodes (power n r) e t t ≡ false
   unfolding diagonal
   round-none g t =
       ap (λ (f : Set). f t) (sym on)

@@ -7,9 +7,9 @@ use Prim.Native.Nat.{ℕ, zero, suc, _+_, _-_, _<_, _≤_}
 use native.Mathlib.Omega.{arith}
 use native.Mathlib.Decide.{decLt}
 use lib.ListN.{length, getD, List·getD-eq-default}
-use Rattle.relation.specs.Rel.{Rel, either, union, chain, plus, nodes}
+use Rattle.relation.specs.Rel.{Rel, either, union, compose, plus, nodes}
 use Rattle.relation.specs.Ring.{after, closed, Ring, RingOrNone}
-use Rattle.relation.proofs.Meaning.{Steps, one, more, or-either, or-left, or-right, mem-below, chain-sound, chain-complete, plus-sound, plus-holds, plus-complete}
+use Rattle.relation.proofs.Meaning.{Steps, one, more, or-either, or-left, or-right, mem-below, compose-sound, compose-complete, plus-sound, plus-holds, plus-complete}
 use Rattle.relation.proofs.Walks.{Inside, Walk, stay, go, walk-join, walk-steps}
 use Rattle.relation.proofs.RingLaws.{getD-any}
 
@@ -23,7 +23,7 @@ unfolding closed either union
 closed-of-walk r e ir ie zero x _ stay c = or-left (e x x) _ c
 closed-of-walk r e ir ie (suc n) x y w c =
     or-right (e x x) _
-    (chain-complete nodes (plus nodes r) e x y x (mem-below 64 y (ie .source y x c)) (plus-of-steps r ir x y (walk-steps w)) c)
+    (compose-complete nodes (plus nodes r) e x y x (mem-below 64 y (ie .source y x c)) (plus-of-steps r ir x y (walk-steps w)) c)
 
 -- Where e is r, to come back is to reach oneself.
 pub closed-plus : (r : Rel) → Inside r → (x : ℕ) → closed r r x x ≡ true → plus nodes r x x ≡ true
@@ -31,17 +31,17 @@ unfolding closed either union
 closed-plus r i x p =
     elim (or-either (r x x) _ p) [
       | inl h ↦ plus-holds nodes r x x h
-      | inr h ↦ let (y, m, a, b) = chain-sound nodes (plus nodes r) r x x h in plus-of-steps r i x x (more (plus-sound nodes r x y a) b)
+      | inr h ↦ let (y, m, a, b) = compose-sound nodes (plus nodes r) r x x h in plus-of-steps r i x x (more (plus-sound nodes r x y a) b)
     ]
 
 pub plus-closed : (r : Rel) → Inside r → (x : ℕ) → plus nodes r x x ≡ true → closed r r x x ≡ true
 unfolding closed either union
 plus-closed r i x p = last-step (plus-sound nodes r x x p)
   where
-    last-step : Steps r x x → r x x || chain nodes (plus nodes r) r x x ≡ true
+    last-step : Steps r x x → r x x || compose nodes (plus nodes r) r x x ≡ true
     last-step (one h) = or-left (r x x) _ h
     last-step (more {y = y} s h) =
-        or-right (r x x) _ (chain-complete nodes (plus nodes r) r x y x (mem-below 64 y (i .source y x h)) (plus-of-steps r i x y s) h)
+        or-right (r x x) _ (compose-complete nodes (plus nodes r) r x y x (mem-below 64 y (i .source y x h)) (plus-of-steps r i x y s) h)
 
 -- A ring brings an event back to itself.
 module _ (r e : Rel) (ir : Inside r) (ie : Inside e) (l : List ℕ) (ring : Ring r e l) where

@@ -8,12 +8,12 @@ use native.Mathlib.Decide.{decLt}
 use borrow.Author.Tests.{eqb-true, lt-ltb, eq-eqb, ltb-true}
 use lib.Dec.{eqb, ltb}
 use lib.ListN.{length, getD}
-use Rattle.relation.specs.Rel.{Set, Rel, empty, identity, chain, plus, nodes}
+use Rattle.relation.specs.Rel.{Set, Rel, empty, identity, compose, plus, nodes}
 use Rattle.relation.specs.Bits.{bit, edge}
 use Rattle.relation.specs.Ring.{under, power}
 use Rattle.relation.proofs.ByteLaws.{bit-out}
 use Rattle.relation.proofs.GridLaws.{edge-out}
-use Rattle.relation.proofs.Meaning.{Steps, one, more, and-left, and-right, and-both, mem-below, chain-sound, chain-complete}
+use Rattle.relation.proofs.Meaning.{Steps, one, more, and-left, and-right, and-both, mem-below, compose-sound, compose-complete}
 use Rattle.relation.proofs.Pigeonhole.{Twice, pigeonhole}
 
 -- A relation between numbers below 64.
@@ -57,14 +57,14 @@ pub power-sound : (r : Rel) (n x y : ℕ) → power n r x y ≡ true → Walk r 
 unfolding power identity
 power-sound r zero x y p = subst (λ (z : ℕ). Walk r x zero z) (eqb-true x y (and-right (under 64 x) (eqb x y) p)) stay
 power-sound r (suc n) x z p =
-    let (y, m, a, b) = chain-sound nodes (power n r) r x z p in
+    let (y, m, a, b) = compose-sound nodes (power n r) r x z p in
     go (power-sound r n x y a) b
 
 pub power-complete : (r : Rel) → Inside r → (n x y : ℕ) → x < 64 → Walk r x n y → power n r x y ≡ true
 unfolding power identity under
 power-complete r i zero x _ h stay = and-both (ltb x 64) (eqb x x) (lt-ltb x 64 h) (eq-eqb x x refl)
 power-complete r i (suc n) x z h (go {y = y} w e) =
-    chain-complete nodes (power n r) r x y z (mem-below 64 y (i .source y z e)) (power-complete r i n x y h w) e
+    compose-complete nodes (power n r) r x y z (mem-below 64 y (i .source y z e)) (power-complete r i n x y h w) e
 
 -- The event k steps before a walk's end, with the walk up to it and the walk from it.
 pub node : {r : Rel} {x z n : ℕ} → Walk r x n z → ℕ → ℕ

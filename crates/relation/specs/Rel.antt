@@ -83,8 +83,8 @@ unfoldable pub image : List ℕ → Set → Rel → Set
 image es s r j = some es (λ i. s i && r i j)
 
 -- r ; s ("r then s")
-unfoldable pub chain : List ℕ → Rel → Rel → Rel
-chain es r s i = image es (r i) s
+unfoldable pub compose : List ℕ → Rel → Rel → Rel
+compose es r s i = image es (r i) s
 
 -- r, or two steps of r that meet in k.
 unfoldable pub through : ℕ → Rel → Rel

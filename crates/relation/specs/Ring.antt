@@ -6,7 +6,7 @@ use mathlib.Core.Bool.{Bool, true, false}
 use Prim.Native.Nat.{ℕ, zero, suc, _+_, _-_, _<_, _≤_}
 use lib.Dec.{ltb}
 use lib.ListN.{length, getD}
-use Rattle.relation.specs.Rel.{Rel, Set, either, image, chain, inverse, plus, identity, nodes}
+use Rattle.relation.specs.Rel.{Rel, Set, either, image, compose, inverse, plus, identity, nodes}
 
 -- The event that follows position k of a ring: the first event follows the last.
 unfoldable pub after : List ℕ → ℕ → ℕ
@@ -24,7 +24,7 @@ pub record Ring (r e : Rel) (l : List ℕ) : Type 0 where
 
 -- r* ; e: any number of steps of r, then one of e.
 unfoldable pub closed : Rel → Rel → Rel
-closed r e = either e (chain nodes (plus nodes r) e)
+closed r e = either e (compose nodes (plus nodes r) e)
 
 -- What the ring routine answers: no event and the certificate that none comes back to itself, or a ring.
 pub record RingOrNone (r e : Rel) (l : List ℕ) : Type 0 where
@@ -38,7 +38,7 @@ under n j = ltb j n
 -- Exactly n steps of r.
 unfoldable pub power : ℕ → Rel → Rel
 power zero r = identity (under 64)
-power (suc n) r = chain nodes (power n r) r
+power (suc n) r = compose nodes (power n r) r
 
 -- The rest says what the parts of the ring routine do.
 
@@ -46,8 +46,8 @@ power (suc n) r = chain nodes (power n r) r
 pub record Shortest (r e : Rel) (n s : ℕ) : Type 0 where
   pub bound : n ≤ 64
   pub inside : n < 64 → s < 64
-  pub closes : n < 64 → chain nodes (power n r) e s s ≡ true
-  pub fewest : (m : ℕ) → m < n → (t : ℕ) → chain nodes (power m r) e t t ≡ false
+  pub closes : n < 64 → compose nodes (power n r) e s s ≡ true
+  pub fewest : (m : ℕ) → m < n → (t : ℕ) → compose nodes (power m r) e t t ≡ false
 
 -- Each row of h but the first holds what leads there, by b backward, from the row before it.
 pub record Levels (h b : Rel) : Type 0 where

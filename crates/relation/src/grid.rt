@@ -2,20 +2,24 @@
 // A grid is an array of arrays by value.
 
 use crate::row;
+use crate::row::Row;
 ghost use mathlib.Core.Path.{_≡_};
 ghost use Prim.Native.Nat.{_<_};
-ghost use Rattle.relation.specs.Rel.{none, pair, either, both, minus, inverse, identity, product, from, into, image, chain, plus, optional, star, diagonal, nodes};
+ghost use Rattle.relation.specs.Rel.{none, pair, either, both, minus, inverse, identity, product, from, into, image, compose, plus, optional, star, diagonal, nodes};
 ghost use Rattle.relation.specs.Bits.{bit, edge};
 
+// A relation.
+pub type Grid = [[u8; 8]; 64];
+
 // The empty relation.
-pub fn empty() -> [[u8; 8]; 64]
+pub fn empty() -> Grid
     ensures { λ r. ⌜ edge r ≡ none ⌝ }
 {
     [[0u8; 8]; 64]
 }
 
 // The events that i is related to.
-pub fn row_of(g: [[u8; 8]; 64], i: usize) -> [u8; 8]
+pub fn row_of(g: Grid, i: usize) -> Row
     requires { ⌜ i < 64 ⌝ }
     ensures { λ r. ⌜ bit r ≡ edge g i ⌝ }
 {
@@ -23,7 +27,7 @@ pub fn row_of(g: [[u8; 8]; 64], i: usize) -> [u8; 8]
 }
 
 // Whether the relation holds from i to j.
-pub fn has(g: [[u8; 8]; 64], i: usize, j: usize) -> bool
+pub fn has(g: Grid, i: usize, j: usize) -> bool
     requires { ⌜ (i < 64) × (j < 64) ⌝ }
     ensures { λ r. ⌜ r ≡ edge g i j ⌝ }
 {
@@ -32,7 +36,7 @@ pub fn has(g: [[u8; 8]; 64], i: usize, j: usize) -> bool
 }
 
 // The relation with the pair (i, j).
-pub fn with(g: [[u8; 8]; 64], i: usize, j: usize) -> [[u8; 8]; 64]
+pub fn with(g: Grid, i: usize, j: usize) -> Grid
     requires { ⌜ (i < 64) × (j < 64) ⌝ }
     ensures { λ r. ⌜ edge r ≡ either (edge g) (pair i j) ⌝ }
 {
@@ -43,7 +47,7 @@ pub fn with(g: [[u8; 8]; 64], i: usize, j: usize) -> [[u8; 8]; 64]
 }
 
 // Union.
-pub fn or(a: [[u8; 8]; 64], b: [[u8; 8]; 64]) -> [[u8; 8]; 64]
+pub fn or(a: Grid, b: Grid) -> Grid
     ensures { λ r. ⌜ edge r ≡ either (edge a) (edge b) ⌝ }
 {
     let mut h = a;
@@ -58,7 +62,7 @@ pub fn or(a: [[u8; 8]; 64], b: [[u8; 8]; 64]) -> [[u8; 8]; 64]
 }
 
 // Intersection.
-pub fn and(a: [[u8; 8]; 64], b: [[u8; 8]; 64]) -> [[u8; 8]; 64]
+pub fn and(a: Grid, b: Grid) -> Grid
     ensures { λ r. ⌜ edge r ≡ both (edge a) (edge b) ⌝ }
 {
     let mut h = a;
@@ -73,7 +77,7 @@ pub fn and(a: [[u8; 8]; 64], b: [[u8; 8]; 64]) -> [[u8; 8]; 64]
 }
 
 // Difference.
-pub fn minus(a: [[u8; 8]; 64], b: [[u8; 8]; 64]) -> [[u8; 8]; 64]
+pub fn minus(a: Grid, b: Grid) -> Grid
     ensures { λ r. ⌜ edge r ≡ minus (edge a) (edge b) ⌝ }
 {
     let mut h = a;
@@ -88,7 +92,7 @@ pub fn minus(a: [[u8; 8]; 64], b: [[u8; 8]; 64]) -> [[u8; 8]; 64]
 }
 
 // What g reaches from s in one step.
-pub fn image(s: [u8; 8], g: [[u8; 8]; 64]) -> [u8; 8]
+pub fn image(s: Row, g: Grid) -> Row
     ensures { λ r. ⌜ bit r ≡ image nodes (bit s) (edge g) ⌝ }
 {
     let mut r = row::none();
@@ -103,8 +107,8 @@ pub fn image(s: [u8; 8], g: [[u8; 8]; 64]) -> [u8; 8]
 }
 
 // a, then b.
-pub fn then(a: [[u8; 8]; 64], b: [[u8; 8]; 64]) -> [[u8; 8]; 64]
-    ensures { λ r. ⌜ edge r ≡ chain nodes (edge a) (edge b) ⌝ }
+pub fn then(a: Grid, b: Grid) -> Grid
+    ensures { λ r. ⌜ edge r ≡ compose nodes (edge a) (edge b) ⌝ }
 {
     let mut h = a;
     let mut r = row::none();
@@ -128,7 +132,7 @@ pub fn then(a: [[u8; 8]; 64], b: [[u8; 8]; 64]) -> [[u8; 8]; 64]
 }
 
 // The identity on s.
-pub fn identity(s: [u8; 8]) -> [[u8; 8]; 64]
+pub fn identity(s: Row) -> Grid
     ensures { λ r. ⌜ edge r ≡ identity (bit s) ⌝ }
 {
     let mut h = empty();
@@ -144,7 +148,7 @@ pub fn identity(s: [u8; 8]) -> [[u8; 8]; 64]
 }
 
 // From every event of s to every event of t.
-pub fn product(s: [u8; 8], t: [u8; 8]) -> [[u8; 8]; 64]
+pub fn product(s: Row, t: Row) -> Grid
     ensures { λ r. ⌜ edge r ≡ product (bit s) (bit t) ⌝ }
 {
     let mut h = empty();
@@ -159,7 +163,7 @@ pub fn product(s: [u8; 8], t: [u8; 8]) -> [[u8; 8]; 64]
 }
 
 // g from events of s only.
-pub fn from(s: [u8; 8], g: [[u8; 8]; 64]) -> [[u8; 8]; 64]
+pub fn from(s: Row, g: Grid) -> Grid
     ensures { λ r. ⌜ edge r ≡ from (bit s) (edge g) ⌝ }
 {
     let mut h = empty();
@@ -175,7 +179,7 @@ pub fn from(s: [u8; 8], g: [[u8; 8]; 64]) -> [[u8; 8]; 64]
 }
 
 // g into events of s only.
-pub fn into(g: [[u8; 8]; 64], s: [u8; 8]) -> [[u8; 8]; 64]
+pub fn into(g: Grid, s: Row) -> Grid
     ensures { λ r. ⌜ edge r ≡ into (edge g) (bit s) ⌝ }
 {
     let mut h = g;
@@ -189,7 +193,7 @@ pub fn into(g: [[u8; 8]; 64], s: [u8; 8]) -> [[u8; 8]; 64]
 }
 
 // The events that are related to j.
-pub fn column(g: [[u8; 8]; 64], j: usize) -> [u8; 8]
+pub fn column(g: Grid, j: usize) -> Row
     requires { ⌜ j < 64 ⌝ }
     ensures { λ r. ⌜ bit r ≡ inverse (edge g) j ⌝ }
 {
@@ -207,7 +211,7 @@ pub fn column(g: [[u8; 8]; 64], j: usize) -> [u8; 8]
 }
 
 // The relation the other way round.
-pub fn inverse(g: [[u8; 8]; 64]) -> [[u8; 8]; 64]
+pub fn inverse(g: Grid) -> Grid
     ensures { λ r. ⌜ edge r ≡ inverse (edge g) ⌝ }
 {
     let mut h = empty();
@@ -227,7 +231,7 @@ pub fn inverse(g: [[u8; 8]; 64]) -> [[u8; 8]; 64]
 }
 
 // The events that are related to themselves.
-pub fn diagonal(g: [[u8; 8]; 64]) -> [u8; 8]
+pub fn diagonal(g: Grid) -> Row
     ensures { λ r. ⌜ bit r ≡ diagonal (edge g) ⌝ }
 {
     let mut r = row::none();
@@ -244,8 +248,8 @@ pub fn diagonal(g: [[u8; 8]; 64]) -> [u8; 8]
 }
 
 // The diagonal of a ; b⁻¹: the events whose rows of a and b share a member.
-pub fn returning(a: [[u8; 8]; 64], b: [[u8; 8]; 64]) -> [u8; 8]
-    ensures { λ r. ⌜ bit r ≡ diagonal (chain nodes (edge a) (inverse (edge b))) ⌝ }
+pub fn returning(a: Grid, b: Grid) -> Row
+    ensures { λ r. ⌜ bit r ≡ diagonal (compose nodes (edge a) (inverse (edge b))) ⌝ }
 {
     let mut r = row::none();
     let mut i: usize = 0;
@@ -262,14 +266,14 @@ pub fn returning(a: [[u8; 8]; 64], b: [[u8; 8]; 64]) -> [u8; 8]
 }
 
 // g, or the identity on s.
-pub fn optional(g: [[u8; 8]; 64], s: [u8; 8]) -> [[u8; 8]; 64]
+pub fn optional(g: Grid, s: Row) -> Grid
     ensures { λ r. ⌜ edge r ≡ optional (bit s) (edge g) ⌝ }
 {
     or(g, identity(s))
 }
 
 // One or more steps of g: a round for each event k joins two steps that meet in k.
-pub fn closure(g: [[u8; 8]; 64]) -> [[u8; 8]; 64]
+pub fn closure(g: Grid) -> Grid
     ensures { λ r. ⌜ edge r ≡ plus nodes (edge g) ⌝ }
 {
     let mut h = g;
@@ -291,7 +295,7 @@ pub fn closure(g: [[u8; 8]; 64]) -> [[u8; 8]; 64]
 }
 
 // Any number of steps of g, on the events s.
-pub fn star(g: [[u8; 8]; 64], s: [u8; 8]) -> [[u8; 8]; 64]
+pub fn star(g: Grid, s: Row) -> Grid
     ensures { λ r. ⌜ edge r ≡ star nodes (bit s) (edge g) ⌝ }
 {
     optional(closure(g), s)

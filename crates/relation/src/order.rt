@@ -2,7 +2,9 @@
 
 use crate::Sequence;
 use crate::grid;
+use crate::grid::Grid;
 use crate::row;
+use crate::row::Row;
 ghost use mathlib.Core.Path.{_≡_};
 ghost use Prim.Native.Nat.{_≤_};
 ghost use lib.ListN.{take};
@@ -10,7 +12,7 @@ ghost use Rattle.relation.specs.Bits.{bit, edge};
 ghost use Rattle.relation.specs.Order.{order};
 
 // The events of s in that order; those that come out are all of them where g has no ring.
-pub fn order(g: [[u8; 8]; 64], s: [u8; 8]) -> Sequence
+pub fn order(g: Grid, s: Row) -> Sequence
     ensures bounded { λ r. ⌜ r .len ≤ 64 ⌝ }
     ensures ordered { λ r. ⌜ take (r .len) (r .at) ≡ order 64 (edge g) (bit s) ⌝ }
 {

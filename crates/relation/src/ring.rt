@@ -3,13 +3,15 @@
 
 use crate::Sequence;
 use crate::grid;
+use crate::grid::Grid;
 use crate::row;
+use crate::row::Row;
 ghost use mathlib.Core.Path.{_≡_};
 ghost use mathlib.Core.Bool.{true};
 ghost use Prim.Native.Nat.{ℕ, _<_, _≤_};
 ghost use lib.ListN.{take};
 ghost use Rattle.relation.specs.Bits.{edge};
-ghost use Rattle.relation.specs.Rel.{chain, nodes};
+ghost use Rattle.relation.specs.Rel.{compose, nodes};
 ghost use Rattle.relation.specs.Ring.{RingOrNone, power, Shortest, Levels, StepsBack, Way, Turned, turnedTo, SmallestAt};
 
 // Where a ring starts, and how many steps of g it has; 64 steps where there is none.
@@ -19,7 +21,7 @@ pub struct Start {
 }
 
 // The fewest steps of g that an edge of e closes, and the smallest event that they start from.
-pub fn shortest(g: [[u8; 8]; 64], e: [[u8; 8]; 64]) -> Start
+pub fn shortest(g: Grid, e: Grid) -> Start
     ensures { λ r. ⌜ Shortest (edge g) (edge e) (r .steps) (r .event) ⌝ }
 {
     let back = grid::inverse(e);
@@ -41,7 +43,7 @@ pub fn shortest(g: [[u8; 8]; 64], e: [[u8; 8]; 64]) -> Start
 }
 
 // Row k holds the events that g reaches from s in exactly k steps.
-pub fn levels(g: [[u8; 8]; 64], s: usize) -> [[u8; 8]; 64]
+pub fn levels(g: Grid, s: usize) -> Grid
     requires { ⌜ s < 64 ⌝ }
     ensures { λ r. ⌜ ((k : ℕ) → k < 64 → edge r k ≡ power k (edge g) s) ⌝ }
 {
@@ -58,7 +60,7 @@ pub fn levels(g: [[u8; 8]; 64], s: usize) -> [[u8; 8]; 64]
 }
 
 // n steps back from x: from each level to the one before it, by an edge of b.
-pub fn steps_back(h: [[u8; 8]; 64], b: [[u8; 8]; 64], n: usize, x: usize) -> [u8; 64]
+pub fn steps_back(h: Grid, b: Grid, n: usize, x: usize) -> [u8; 64]
     requires { ⌜ (n < 64) × (x < 64) × (edge h n x ≡ true) × Levels (edge h) (edge b) ⌝ }
     ensures { λ r. ⌜ StepsBack (edge h) (edge b) n x r ⌝ }
 {
@@ -77,8 +79,8 @@ pub fn steps_back(h: [[u8; 8]; 64], b: [[u8; 8]; 64], n: usize, x: usize) -> [u8
 }
 
 // A way of n steps of g from s that an edge of e closes.
-pub fn way(g: [[u8; 8]; 64], e: [[u8; 8]; 64], s: usize, n: usize) -> [u8; 64]
-    requires { ⌜ (s < 64) × (n < 64) × (chain nodes (power n (edge g)) (edge e) s s ≡ true) ⌝ }
+pub fn way(g: Grid, e: Grid, s: usize, n: usize) -> [u8; 64]
+    requires { ⌜ (s < 64) × (n < 64) × (compose nodes (power n (edge g)) (edge e) s s ≡ true) ⌝ }
     ensures { λ r. ⌜ Way (edge g) (edge e) s n r ⌝ }
 {
     let h = levels(g, s);
@@ -128,7 +130,7 @@ pub fn turned(at: [u8; 64], len: usize) -> Sequence
 }
 
 // A ring, or no event where there is none.
-pub fn ring(g: [[u8; 8]; 64], e: [[u8; 8]; 64]) -> Sequence
+pub fn ring(g: Grid, e: Grid) -> Sequence
     ensures bounded { λ r. ⌜ r .len ≤ 64 ⌝ }
     ensures ring { λ r. ⌜ RingOrNone (edge g) (edge e) (take (r .len) (r .at)) ⌝ }
 {

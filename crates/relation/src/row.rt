@@ -6,22 +6,25 @@ ghost use Rattle.relation.specs.Rel.{empty, single, given, union, inters
 ghost use Rattle.relation.specs.Bits.{on, bit};
 ghost use Rattle.relation.specs.Ring.{under};
 
+// A set of events.
+pub type Row = [u8; 8];
+
 // The empty set.
-pub fn none() -> [u8; 8]
+pub fn none() -> Row
     ensures { λ r. ⌜ bit r ≡ empty ⌝ }
 {
     [0u8; 8]
 }
 
 // Every number that a row has a bit for.
-pub fn all() -> [u8; 8]
+pub fn all() -> Row
     ensures { λ r. ⌜ bit r ≡ under 64 ⌝ }
 {
     [255u8; 8]
 }
 
 // The row as one number, whose bit j is event j.
-fn word(row: [u8; 8]) -> u64
+fn word(row: Row) -> u64
     ensures { λ r. ⌜ bit row ≡ on r ⌝ }
 {
     (row[0] as u64)
@@ -35,7 +38,7 @@ fn word(row: [u8; 8]) -> u64
 }
 
 // The row whose bits are those of a number.
-fn bytes(w: u64) -> [u8; 8]
+fn bytes(w: u64) -> Row
     ensures { λ r. ⌜ bit r ≡ on w ⌝ }
 {
     [
@@ -51,7 +54,7 @@ fn bytes(w: u64) -> [u8; 8]
 }
 
 // The numbers below n.
-pub fn below(n: usize) -> [u8; 8]
+pub fn below(n: usize) -> Row
     requires { ⌜ n ≤ 64 ⌝ }
     ensures { λ r. ⌜ bit r ≡ under n ⌝ }
 {
@@ -62,7 +65,7 @@ pub fn below(n: usize) -> [u8; 8]
 }
 
 // Whether j is in the set.
-pub fn has(row: [u8; 8], j: usize) -> bool
+pub fn has(row: Row, j: usize) -> bool
     requires { ⌜ j < 64 ⌝ }
     ensures { λ r. ⌜ r ≡ bit row j ⌝ }
 {
@@ -70,7 +73,7 @@ pub fn has(row: [u8; 8], j: usize) -> bool
 }
 
 // The set with j.
-pub fn with(row: [u8; 8], j: usize) -> [u8; 8]
+pub fn with(row: Row, j: usize) -> Row
     requires { ⌜ j < 64 ⌝ }
     ensures { λ r. ⌜ bit r ≡ union (bit row) (single j) ⌝ }
 {
@@ -78,7 +81,7 @@ pub fn with(row: [u8; 8], j: usize) -> [u8; 8]
 }
 
 // The set without j.
-pub fn without(row: [u8; 8], j: usize) -> [u8; 8]
+pub fn without(row: Row, j: usize) -> Row
     requires { ⌜ j < 64 ⌝ }
     ensures { λ r. ⌜ bit r ≡ difference (bit row) (single j) ⌝ }
 {
@@ -87,7 +90,7 @@ pub fn without(row: [u8; 8], j: usize) -> [u8; 8]
 }
 
 // The set if b holds, otherwise empty.
-pub fn given(b: bool, row: [u8; 8]) -> [u8; 8]
+pub fn given(b: bool, row: Row) -> Row
     ensures { λ r. ⌜ bit r ≡ given b (bit row) ⌝ }
 {
     if b {
@@ -97,7 +100,7 @@ pub fn given(b: bool, row: [u8; 8]) -> [u8; 8]
 }
 
 // Union.
-pub fn or(a: [u8; 8], b: [u8; 8]) -> [u8; 8]
+pub fn or(a: Row, b: Row) -> Row
     ensures { λ r. ⌜ bit r ≡ union (bit a) (bit b) ⌝ }
 {
     let mut r = a;
@@ -110,7 +113,7 @@ pub fn or(a: [u8; 8], b: [u8; 8]) -> [u8; 8]
 }
 
 // Intersection.
-pub fn and(a: [u8; 8], b: [u8; 8]) -> [u8; 8]
+pub fn and(a: Row, b: Row) -> Row
     ensures { λ r. ⌜ bit r ≡ intersection (bit a) (bit b) ⌝ }
 {
     let mut r = a;
@@ -123,7 +126,7 @@ pub fn and(a: [u8; 8], b: [u8; 8]) -> [u8; 8]
 }
 
 // Difference.
-pub fn minus(a: [u8; 8], b: [u8; 8]) -> [u8; 8]
+pub fn minus(a: Row, b: Row) -> Row
     ensures { λ r. ⌜ bit r ≡ difference (bit a) (bit b) ⌝ }
 {
     let mut r = a;
@@ -136,14 +139,14 @@ pub fn minus(a: [u8; 8], b: [u8; 8]) -> [u8; 8]
 }
 
 // The smallest member, or 64 where there is none.
-pub fn first(row: [u8; 8]) -> usize
+pub fn first(row: Row) -> usize
     ensures { λ r. ⌜ r ≡ least 64 (bit row) ⌝ }
 {
     u64::trailing_zeros(word(row)) as usize
 }
 
 // The smallest member that is i or more, or 64 where there is none.
-pub fn next(row: [u8; 8], i: usize) -> usize
+pub fn next(row: Row, i: usize) -> usize
     requires { ⌜ i ≤ 64 ⌝ }
     ensures { λ r. ⌜ Next (bit row) i r ⌝ }
 {
@@ -158,7 +161,7 @@ pub fn next(row: [u8; 8], i: usize) -> usize
 }
 
 // How many members there are.
-pub fn size(row: [u8; 8]) -> usize
+pub fn size(row: Row) -> usize
     ensures { λ r. ⌜ r ≡ count 64 (bit row) ⌝ }
 {
     u64::count_ones(word(row)) as usize

@@ -2,6 +2,8 @@
 
 use libc::STDOUT_FILENO;
 use relation::Sequence;
+use relation::grid::Grid;
+use relation::row::Row;
 ghost use Prim.Native.Nat.{_≤_, _<_};
 
 // The first len events, each behind a space, and a line feed.
@@ -17,7 +19,7 @@ fn show(at: [u8; 64], len: usize)
     io::write_all(STDOUT_FILENO, b"\n");
 }
 
-fn show_ring(g: [[u8; 8]; 64], e: [[u8; 8]; 64]) {
+fn show_ring(g: Grid, e: Grid) {
     io::write_all(STDOUT_FILENO, b"ring");
     let found = relation::ring::ring(g, e);
     let at = found.at;
@@ -25,7 +27,7 @@ fn show_ring(g: [[u8; 8]; 64], e: [[u8; 8]; 64]) {
     show(at, len);
 }
 
-fn show_order(g: [[u8; 8]; 64], s: [u8; 8]) {
+fn show_order(g: Grid, s: Row) {
     io::write_all(STDOUT_FILENO, b"order");
     let found = relation::order::order(g, s);
     let at = found.at;

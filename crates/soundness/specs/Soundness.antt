@@ -10,7 +10,7 @@ use Rattle.models.specs.Rules.{IMM, ARMv8, verdict}
 use Rattle.layout.specs.Layout.{kind}
 use Rattle.layout.specs.Decode.{decode}
 use Rattle.recording.specs.Causes.{refusal}
-use Rattle.translation.specs.Answer.{translation}
+use Rattle.translation.specs.TranslationAnswer.{translation}
 
 -- The file loads, and is of that kind: 1 source, 2 chip.
 pub record LoadsAs (k : ℕ) (f : List ℕ) : Type 0 where

@@ -15,7 +15,7 @@ use Rattle.layout.specs.Decode.{isRecorded, decode}
 use Rattle.translation.specs.Contents.{contents}
 use Rattle.translation.specs.Translate.{exclusive, strong, newEvents, after, controlled, translated}
 use Rattle.translation.specs.Encode.{isLink, linksUpTo}
-use Rattle.translation.specs.Answer.{chip}
+use Rattle.translation.specs.TranslationAnswer.{chip}
 use Rattle.translation.specs.Parts.{Source}
 use Rattle.relation.proofs.Truth.{is-true, holds}
 use Rattle.recording.proofs.Accepted.{links-sound}

@@ -13,7 +13,7 @@ use Rattle.models.specs.Steps.{Plus, one, cons}
 use Rattle.models.specs.Graph.{graph, base, Within}
 use Rattle.models.specs.Loads.{Loads}
 use Rattle.models.proofs.Tests.{plus-steps, below-listed}
-use Rattle.models.proofs.Sets.{recorded-event, class-event, flag-class, access-event, step-intro, linked}
+use Rattle.models.proofs.MemberLaws.{recorded-event, class-event, flag-class, access-event, step-intro, linked}
 use Rattle.models.proofs.Agree.{agrees}
 use Rattle.recording.specs.Causes.{sameLocations, rfLegal, coLegal, rmwLegal, fromRead, dataLegal, addrLegal, ctrlLegal, linkLegal, oneSource}
 use Rattle.relation.proofs.Truth.{is-true, holds, is-false}

@@ -11,10 +11,10 @@ pub mod Bounds
 pub mod Relates
 pub mod LegalEvents
 pub mod LegalLinks
-pub mod Loading
+pub mod TranslationLoads
 pub mod OutputLaws
 pub mod EventLaws
 pub mod LinkRows
 pub mod WriteLaws
-pub mod CallLaws
+pub mod TranslationCall
 pub mod Theorems

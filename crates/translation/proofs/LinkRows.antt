@@ -11,7 +11,7 @@ use borrow.Author.Tests.{le-leb, lt-leb, ne-eqb}
 use lib.Dec.{eqb, leb}
 use lib.ListN.{length, getD, set, replicate, length-set}
 use lib.Seq.{getD-set-same, getD-set-other}
-use Rattle.relation.specs.Rel.{Set, Rel, empty, single, union, intersection, either, inverse, some, image, chain, count, nodes}
+use Rattle.relation.specs.Rel.{Set, Rel, empty, single, union, intersection, either, inverse, some, image, compose, count, nodes}
 use Rattle.relation.specs.Bits.{bit}
 use Rattle.relation.proofs.Meaning.{and-left, and-right}
 use Rattle.relation.proofs.SetLaws.{or-false, and-false}
@@ -26,7 +26,7 @@ use Rattle.recording.proofs.Loaded.{loaded-readable}
 use Rattle.translation.specs.Contents.{Contents, contents}
 use Rattle.translation.specs.Translate.{flagged, exclusive, newEvents, after, follows, controlled, fromExclusive, fromCasdep, newLink, translated}
 use Rattle.translation.specs.Encode.{isLink, linksBefore, linksUpTo}
-use Rattle.translation.specs.Answer.{chip}
+use Rattle.translation.specs.TranslationAnswer.{chip}
 use Rattle.translation.specs.Parts.{Source, NewEvent, RowsInto, Ends, targets, ctrlInto}
 use Rattle.relation.proofs.Counting.{count-add, count-same, count-mono}
 use Rattle.translation.proofs.TranslateLaws as law
@@ -120,8 +120,8 @@ module _ (f : List ℕ) (s : Source f) where
       ∙ ap (λ (c : Bool). c && eqb (after (contents f) e) j) (and-false (leb 1 e)))
 
   -- All ctrl links.
-  casdep-links : chain nodes (decode f .link 7) (targets (contents f) false) ≡ fromCasdep (contents f)
-  unfolding fromCasdep chain image targets contents
+  casdep-links : compose nodes (decode f .link 7) (targets (contents f) false) ≡ fromCasdep (contents f)
+  unfolding fromCasdep compose image targets contents
   casdep-links = fun-ext (λ a. fun-ext (λ b. some-same nodes _ _ (λ e. same a b e (decode f .link 7 a e) refl)))
     where
       same : (a b e : ℕ) (l : Bool) → decode f .link 7 a e ≡ l
@@ -132,10 +132,10 @@ module _ (f : List ℕ) (s : Source f) where
       same a b e false p = ap (λ (l : Bool). l && ((leb 1 e && leb e (events f)) && follows (contents f) e b)) p ∙ sym (ap (λ (l : Bool). l && follows (contents f) e b) p)
 
   pub ctrl-is : (kept seven steps cas ex added all r : Rel) → kept ≡ decode f .link 6 → seven ≡ decode f .link 7 → steps ≡ targets (contents f) false
-      → cas ≡ chain nodes seven steps → ex ≡ targets (contents f) true → added ≡ either ex cas → all ≡ either kept added → r ≡ inverse all → r ≡ ctrlInto (contents f)
+      → cas ≡ compose nodes seven steps → ex ≡ targets (contents f) true → added ≡ either ex cas → all ≡ either kept added → r ≡ inverse all → r ≡ ctrlInto (contents f)
   unfolding ctrlInto contents targets
   ctrl-is kept seven steps cas ex added all r a b c d e g h k =
-      k ∙ ap inverse (h ∙ ap₂ either a (g ∙ ap₂ either e (d ∙ ap₂ (chain nodes) b c ∙ casdep-links)))
+      k ∙ ap inverse (h ∙ ap₂ either a (g ∙ ap₂ either e (d ∙ ap₂ (compose nodes) b c ∙ casdep-links)))
 
   -- The sources of the links of one type into one event.
   in-range : (b : ℕ) → NewEvent (contents f) b → (leb 1 b && leb b (newEvents (contents f))) ≡ true

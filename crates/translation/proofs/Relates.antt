@@ -11,7 +11,7 @@ use Rattle.relation.proofs.Meaning.{and-left, and-right, and-both}
 use Rattle.models.specs.Recording.{Recording, event, ofClass, read, write, fence, access, exclusiveRead, strongWrite, releaseFence, fenceOf}
 use Rattle.models.specs.Translated.{Translated, Control, kept, after-read, after-pair, after-casdep}
 use Rattle.models.proofs.Tests.{or-left, or-right}
-use Rattle.models.proofs.Sets.{class-event, class-is, mode-intro, access-event, access-cases}
+use Rattle.models.proofs.MemberLaws.{class-event, class-is, mode-intro, access-event, access-cases}
 use Rattle.translation.specs.Contents.{Contents}
 use Rattle.translation.specs.Translate.{exclusive, strong, inserted, newEvents, after, keptOr, newMode, newFlag, newLink, translated}
 use Rattle.relation.proofs.Truth.{is-true, holds, same-test, is-false, by-test}

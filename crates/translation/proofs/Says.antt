@@ -13,7 +13,7 @@ use Rattle.relation.proofs.Meaning.{and-left, and-right, and-both}
 use mathlib.Core.Logic.{inl, inr}
 use Rattle.models.specs.Recording.{Recording, event}
 use Rattle.models.specs.Recording as recording
-use Rattle.models.proofs.Sets.{initial-event, recorded-event, event-cases, class-event, class-is, class-intro, flag-class, flag-is, flag-intro}
+use Rattle.models.proofs.MemberLaws.{initial-event, recorded-event, event-cases, class-event, class-is, class-intro, flag-class, flag-is, flag-intro}
 use Rattle.layout.specs.Layout.{events, locations, eventByte}
 use Rattle.layout.specs.Chains.{nextOf, nextEvent}
 use Rattle.layout.specs.Decode.{isRecorded, isInitial, fieldOr, decode}

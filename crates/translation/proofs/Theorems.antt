@@ -14,11 +14,11 @@ use Rattle.layout.specs.Decode.{decode}
 use Rattle.recording.specs.Causes.{refusal}
 use Rattle.recording.proofs.Loaded as loaded
 use Rattle.translation.specs.Translate.{translated}
-use Rattle.translation.specs.Answer.{chip, translation}
+use Rattle.translation.specs.TranslationAnswer.{chip, translation}
 use Rattle.translation.specs.Parts.{Source}
 use Rattle.translation.proofs.EncodeLaws.{encode-kind, encode-events, encode-links, encode-length}
 use Rattle.translation.proofs.Bounds.{most-events, most-links}
-use Rattle.translation.proofs.Loading.{translated-relates, translation-accepted}
+use Rattle.translation.proofs.TranslationLoads.{translated-relates, translation-accepted}
 
 module _ (f : List ℕ) (loads : refusal f ≡ 0) (source : kind f ≡ 1) where
   given : Source f

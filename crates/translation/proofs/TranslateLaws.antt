@@ -7,7 +7,7 @@ use native.Mathlib.Omega.{arith}
 use borrow.Author.Tests.{le-leb, lt-leb, leb-true, eqb-true, eq-eqb, ne-eqb}
 use lib.Dec.{eqb, leb}
 use Rattle.relation.specs.Rel.{Set, nodes}
-use Rattle.relation.proofs.Meaning.{and-left, and-right, and-both, or-either, or-left, or-right, chain-sound, chain-complete, mem-below}
+use Rattle.relation.proofs.Meaning.{and-left, and-right, and-both, or-either, or-left, or-right, compose-sound, compose-complete, mem-below}
 use Rattle.relation.proofs.SetLaws.{least-at, and-false}
 use Rattle.translation.specs.Contents.{Contents}
 use Rattle.translation.specs.Translate.{flagged, exclusive, strong, inserted, newEvents, fenced, after, follows, keptOr, newMode, newFlag, controlled, fromExclusive, fromCasdep, newLink}
@@ -164,7 +164,7 @@ module _ (s : Contents) where
 
   casdep-is : (t a b : ℕ) → t ≡ 6 → fromCasdep s a b ≡ true → Linked t a b
   unfolding fromCasdep follows
-  casdep-is t a b e p = (let w = chain-sound nodes (s .link 7) (follows s) a b p in casdep (w .0) e (w .2) (eqb-true (after s (w .0)) b (w .3)))
+  casdep-is t a b e p = (let w = compose-sound nodes (s .link 7) (follows s) a b p in casdep (w .0) e (w .2) (eqb-true (after s (w .0)) b (w .3)))
 
   pub new-is : (t a b : ℕ) → newLink s t a b ≡ true → New t a b
   unfolding newLink
@@ -202,4 +202,4 @@ module _ (s : Contents) where
       go (stays p q l) = or-left old _ (and-both (leb 1 t && leb t 6) (s .link t a b) (and-both (leb 1 t) (leb t 6) (le-leb 1 t p) (le-leb t 6 q)) l)
       go (exclusively e x q) = added e (or-left (fromExclusive s a b) (fromCasdep s a b) (and-both (exclusive s a) (eqb (controlled s a) b) x (eq-eqb (controlled s a) b q)))
       go (casdep d e l q) =
-          added e (or-right (fromExclusive s a b) (fromCasdep s a b) (chain-complete nodes (s .link 7) (follows s) a d b (mem-below 64 d (small a d l)) l (eq-eqb (after s d) b q)))
+          added e (or-right (fromExclusive s a b) (fromCasdep s a b) (compose-complete nodes (s .link 7) (follows s) a d b (mem-below 64 d (small a d l)) l (eq-eqb (after s d) b q)))

@@ -2,5 +2,5 @@
 pub mod Contents
 pub mod Translate
 pub mod Encode
-pub mod Answer
+pub mod TranslationAnswer
 pub mod Parts

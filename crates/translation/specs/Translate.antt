@@ -2,7 +2,7 @@
 use mathlib.Core.Bool.{Bool, true, false, _&&_, _||_}
 use Prim.Native.Nat.{ℕ, suc, _+_}
 use lib.Dec.{eqb, leb}
-use Rattle.relation.specs.Rel.{Set, Rel, chain, least, count, nodes}
+use Rattle.relation.specs.Rel.{Set, Rel, compose, least, count, nodes}
 use Rattle.translation.specs.Contents.{Contents}
 
 module _ (s : Contents) where
@@ -59,7 +59,7 @@ module _ (s : Contents) where
 
   -- "Each casdep q to e becomes ctrl q to the event directly after e."
   unfoldable pub fromCasdep : Rel
-  fromCasdep = chain nodes (s .link 7) follows
+  fromCasdep = compose nodes (s .link 7) follows
 
   -- "Links 1 to 6 stay"; ctrl (6) gains these; "with no such event there is no link".
   unfoldable pub newLink : ℕ → ℕ → ℕ → Bool

@@ -13,7 +13,7 @@ ghost use Prim.Native.Nat.{ℕ, _≤_};
 ghost use lib.ListN.{length};
 ghost use Rattle.recording.specs.Load.{causeFor};
 ghost use Rattle.recording.specs.Input.{ReadOf};
-ghost use Rattle.translation.specs.Answer.{translationOf, outputOf};
+ghost use Rattle.translation.specs.TranslationAnswer.{translationOf, outputOf};
 
 // What a call answers: the number of the cause that refused it, or the length written.
 pub enum Translation {

@@ -4,7 +4,9 @@ use crate::event;
 use layout::field;
 use reading::graph;
 use relation::grid;
+use relation::grid::Grid;
 use relation::row;
+use relation::row::Row;
 ghost use mathlib.Core.Path.{_≡_};
 ghost use Prim.Native.Nat.{_*_, _≤_, _<_};
 ghost use Rattle.relation.specs.Bits.{bit, edge};
@@ -12,7 +14,7 @@ ghost use Rattle.layout.specs.Layout.{events};
 ghost use Rattle.translation.specs.Contents.{contents};
 ghost use Rattle.translation.specs.Translate.{newEvents, controlled};
 ghost use Rattle.translation.specs.Encode.{linksBefore, linksUpTo};
-ghost use Rattle.translation.specs.Answer.{chip};
+ghost use Rattle.translation.specs.TranslationAnswer.{chip};
 ghost use Rattle.translation.specs.Parts.{Source, NewEvent, Ready, RowsInto, Ends, targets, ctrlInto};
 
 // The event that the ctrl link from the exclusive read r goes to: the one directly after r, or after its write where r has both rmw and
@@ -30,7 +32,7 @@ pub fn controlled(file: &[u8], r: usize) -> usize
 }
 
 // Where an added ctrl link goes: from e as an exclusive read, or as the end of a casdep link.
-pub fn target_row(file: &[u8], exclusive: bool, e: usize) -> [u8; 8]
+pub fn target_row(file: &[u8], exclusive: bool, e: usize) -> Row
     requires { ⌜ Source (now file) ⌝ }
     ensures { λ r. ⌜ bit r ≡ targets (contents (now (file .entry))) exclusive e ⌝ }
 {
@@ -47,7 +49,7 @@ pub fn target_row(file: &[u8], exclusive: bool, e: usize) -> [u8; 8]
 }
 
 // The same for every event, as a grid.
-pub fn target_rows(file: &[u8], exclusive: bool) -> [[u8; 8]; 64]
+pub fn target_rows(file: &[u8], exclusive: bool) -> Grid
     requires { ⌜ Source (now file) ⌝ }
     ensures { λ r. ⌜ edge r ≡ targets (contents (now (file .entry))) exclusive ⌝ }
 {
@@ -61,7 +63,7 @@ pub fn target_rows(file: &[u8], exclusive: bool) -> [[u8; 8]; 64]
 }
 
 // The ctrl links, with a row for each target: those of the source, one from each exclusive read, one for each casdep link.
-pub fn ctrl(file: &[u8]) -> [[u8; 8]; 64]
+pub fn ctrl(file: &[u8]) -> Grid
     requires { ⌜ Source (now file) ⌝ }
     ensures { λ r. ⌜ edge r ≡ ctrlInto (contents (now (file .entry))) ⌝ }
 {
@@ -71,7 +73,7 @@ pub fn ctrl(file: &[u8]) -> [[u8; 8]; 64]
 }
 
 // The sources of the links into b, with a row for each type: those of the source file but for types 0, 6 and 7.
-pub fn rows(file: &[u8], ctrl: [[u8; 8]; 64], b: usize) -> [[u8; 8]; 8]
+pub fn rows(file: &[u8], ctrl: Grid, b: usize) -> [Row; 8]
     requires { ⌜ Ready (now file) (edge ctrl) × NewEvent (contents (now file)) b ⌝ }
     ensures { λ r. ⌜ RowsInto (contents (now (file .entry))) b r ⌝ }
 {
@@ -83,7 +85,7 @@ pub fn rows(file: &[u8], ctrl: [[u8; 8]; 64], b: usize) -> [[u8; 8]; 8]
 }
 
 // How many links there are into events 1 to b, where there are n into smaller ones.
-pub fn links_up_to(file: &[u8], ctrl: [[u8; 8]; 64], b: usize, n: usize) -> usize
+pub fn links_up_to(file: &[u8], ctrl: Grid, b: usize, n: usize) -> usize
     requires { ⌜ Ready (now file) (edge ctrl) × NewEvent (contents (now file)) b × (n ≡ linksBefore (chip (now file)) (512 * b)) ⌝ }
     ensures { λ r. ⌜ (r ≡ linksUpTo (chip (now (file .entry))) b) × (r ≤ 232) ⌝ }
 {
@@ -98,7 +100,7 @@ pub fn links_up_to(file: &[u8], ctrl: [[u8; 8]; 64], b: usize, n: usize) -> usiz
 }
 
 // How many links there are into events 1 to b, for each event b of n.
-pub fn ends(file: &[u8], ctrl: [[u8; 8]; 64], n: usize) -> [u8; 64]
+pub fn ends(file: &[u8], ctrl: Grid, n: usize) -> [u8; 64]
     requires { ⌜ Ready (now file) (edge ctrl) × (n ≡ newEvents (contents (now file))) ⌝ }
     ensures { λ r. ⌜ Ends (now (file .entry)) n r ⌝ }
 {

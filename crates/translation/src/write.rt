@@ -3,7 +3,9 @@
 use crate::event;
 use crate::link;
 use crate::output;
+use relation::grid::Grid;
 use relation::row;
+use relation::row::Row;
 ghost use mathlib.Core.Path.{_≡_};
 ghost use Prim.Native.Nat.{suc, _+_, _*_, _≤_, _<_};
 ghost use lib.ListN.{length};
@@ -12,11 +14,11 @@ ghost use Rattle.relation.specs.Bits.{bit, edge};
 ghost use Rattle.translation.specs.Contents.{contents};
 ghost use Rattle.translation.specs.Translate.{newEvents};
 ghost use Rattle.translation.specs.Encode.{chained, linksBefore, linksUpTo, header, eventRecord, eventRecords, linkRecords, records};
-ghost use Rattle.translation.specs.Answer.{chip};
+ghost use Rattle.translation.specs.TranslationAnswer.{chip};
 ghost use Rattle.translation.specs.Parts.{Source, NewEvent, Ready, Ends, placed, rowRecord, linkStretch};
 
 // The header: kind 2, the new N and M, the old L and heads.
-pub fn header(file: &[u8], n: usize, m: usize) -> [u8; 8]
+pub fn header(file: &[u8], n: usize, m: usize) -> Row
     requires { ⌜ Source (now file) × (n ≡ newEvents (contents (now file))) × (m ≡ linksUpTo (chip (now file)) n) ⌝ }
     ensures { λ r. ⌜ r ≡ header (chip (now (file .entry))) ⌝ }
 {
@@ -33,7 +35,7 @@ pub fn header(file: &[u8], n: usize, m: usize) -> [u8; 8]
 }
 
 // The record of event e, whose first link is given.
-pub fn event_record(file: &[u8], e: usize, first: usize) -> [u8; 8]
+pub fn event_record(file: &[u8], e: usize, first: usize) -> Row
     requires { ⌜ Source (now file) × NewEvent (contents (now file)) e × (first < 256) × (first ≡ chained (linksUpTo (chip (now file)) e) (linksBefore (chip (now file)) (512 * e))) ⌝ }
     ensures { λ r. ⌜ r ≡ eventRecord (chip (now (file .entry))) e ⌝ }
 {
@@ -67,7 +69,7 @@ pub fn write_events(out: &mut [u8], file: &[u8], ends: [u8; 64], n: usize)
 
 // Writes the links of type t into one event from the sources of a row, where n links come before them and last is the number of the
 // last link into that event. Answers how many links then are written.
-pub fn write_row(part: &mut [u8], row: [u8; 8], t: usize, last: usize, n: usize) -> usize
+pub fn write_row(part: &mut [u8], row: Row, t: usize, last: usize, n: usize) -> usize
     requires { ⌜ (t < 8) × (last < 256) × (n < 256) × (4 * (n + count 64 (bit row)) ≤ length (now part)) ⌝ }
     ensures { λ r. ⌜ (r ≡ n + count 64 (bit row)) × (now (part .exit) ≡ placed (now (part .entry)) (4 * n) (records (rowRecord t last n (bit row)) (bit row) 64)) ⌝ }
 {
@@ -86,7 +88,7 @@ pub fn write_row(part: &mut [u8], row: [u8; 8], t: usize, last: usize, n: usize)
 pub fn write_into(
     part: &mut [u8],
     file: &[u8],
-    ctrl: [[u8; 8]; 64],
+    ctrl: Grid,
     b: usize,
     n: usize,
     last: usize,
@@ -106,7 +108,7 @@ pub fn write_into(
 }
 
 // The link writer: writes the links at the start of the part that lies behind the events, where there are n events.
-pub fn write_links(part: &mut [u8], file: &[u8], ctrl: [[u8; 8]; 64], ends: [u8; 64], n: usize)
+pub fn write_links(part: &mut [u8], file: &[u8], ctrl: Grid, ends: [u8; 64], n: usize)
     requires { ⌜ Ends (now file) n ends × Ready (now file) (edge ctrl) × (n ≡ newEvents (contents (now file))) × (4 * linksUpTo (chip (now file)) n ≤ length (now part)) ⌝ }
     ensures { λ _. ⌜ now (part .exit) ≡ placed (now (part .entry)) 0 (linkRecords (chip (now (file .entry))) (512 * suc n)) ⌝ }
 {

@@ -1,5 +1,4 @@
 -- Laws that the proofs of `verdict` and of the models share.
-pub mod ChainLaws
 pub mod TermLaws
 pub mod PairLaws
 pub mod ShownLaws

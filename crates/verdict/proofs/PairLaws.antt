@@ -7,6 +7,7 @@ use borrow.Author.Tests.{lt-ltb}
 use lib.Dec.{eqb, ltb}
 use Rattle.relation.specs.Rel.{Set, Rel, Next, union, intersection, difference, either, inverse, identity, optional, some, image, least, nodes}
 use Rattle.relation.specs.Ring.{under}
+use Rattle.relation.proofs.Truth.{is-false}
 use Rattle.relation.proofs.SetLaws.{and-false, least-is, Seeking, seeking-first, seeking-next, seeking-none, seeking-found}
 use Rattle.relation.proofs.Meaning.{and-right, and-both, mem-below, below-mem, some-sound, some-complete}
 use Rattle.models.specs.Recording.{R, W}
@@ -14,14 +15,9 @@ use Rattle.models.specs.Graph.{Base}
 use Rattle.models.specs.Rules.{unread, unordered}
 use Rattle.verdict.specs.Shown.{firstOf, secondOf, FirstPair}
 
--- A test that cannot pass fails.
-pub fails : (b : Bool) → (b ≡ true → ⊥) → b ≡ false
-fails true n = absurd (n refl)
-fails false n = refl
-
 pub none-some : (s : Set) → ((x : ℕ) → x < 64 → s x ≡ false) → some nodes s ≡ false
 none-some s none =
-    fails (some nodes s)
+    is-false (some nodes s)
     (λ p. let (x, m, h) = some-sound nodes s p in false≢true (sym (none x (below-mem 64 x m)) ∙ h))
 
 -- Some event is in s exactly where the least one is below 64.
@@ -41,7 +37,7 @@ some-under s = go (some nodes s) refl
         let (x, m, h) = some-sound nodes s e in
         some-complete nodes (λ i. ltb i 64 && s i) x m (and-both (ltb x 64) (s x) (lt-ltb x 64 (below-mem 64 x m)) h) ∙ sym e
     go false e =
-        fails (some nodes (λ i. ltb i 64 && s i))
+        is-false (some nodes (λ i. ltb i 64 && s i))
         (λ p. let (x, m, h) = some-sound nodes (λ i. ltb i 64 && s i) p in
         false≢true (sym e ∙ some-complete nodes s x m (and-right (ltb x 64) (s x) h)))
         ∙ sym e

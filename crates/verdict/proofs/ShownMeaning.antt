@@ -9,7 +9,7 @@ use native.Mathlib.Omega.{arith}
 use lib.Dec.{T}
 use Rattle.relation.specs.Rel.{Set, Rel, some, least, diagonal, plus, nodes}
 use Rattle.relation.specs.Order.{EachOnce}
-use Rattle.relation.proofs.Truth.{holds}
+use Rattle.relation.proofs.Truth.{holds, is-false}
 use Rattle.relation.proofs.SetLaws.{least-is, least-lt}
 use Rattle.relation.proofs.Meaning.{Steps, one, more, mem-below, below-mem, some-sound, some-complete, plus-sound}
 use Rattle.relation.proofs.Walks.{Inside}
@@ -24,7 +24,6 @@ use Rattle.models.proofs.Agree.{tests, agrees, recording-verdict, recording-all
 use Rattle.verdict.specs.declared.Verdict.{Verdict}
 use Rattle.verdict.specs.Answer.{answers}
 use Rattle.verdict.specs.Shown.{firstOf, secondOf, events, Shown}
-use Rattle.verdict.proofs.PairLaws.{fails}
 use Rattle.verdict.proofs.ShownLaws.{nth}
 
 first-from : (n : ℕ) (bs : List Bool) → (first n bs ≡ 0) ⊎ (n ≤ first n bs)
@@ -91,7 +90,7 @@ module _ (M : Model) (B : Base) where
     where
       acyclic : (y : ℕ) → plus nodes (eval nodes (M .order) B) y y ≡ false
       acyclic y =
-          fails (plus nodes (eval nodes (M .order) B) y y)
+          is-false (plus nodes (eval nodes (M .order) B) y y)
           (λ q. false≢true
           (sym (first-fails 1 4 (failures nodes B M) (omega arith) e)
           ∙ some-complete nodes (diagonal (plus nodes (eval nodes (M .order) B))) y (mem-below 64 y (steps-target inside (plus-sound nodes _ y y q))) q))
@@ -111,7 +110,7 @@ module _ (r : Recording ℕ) (within : Within nodes r) where
       }
 
   no-event-above : (j : ℕ) → 64 ≤ j → event r j ≡ false
-  no-event-above j h = fails (event r j) (λ e. let low = event-below j (holds _ e) in omega arith)
+  no-event-above j h = is-false (event r j) (λ e. let low = event-below j (holds _ e) in omega arith)
 
 -- The answer of number 0 is that of no other number.
 pub answers-zero : (n : ℕ) → answers n ≡ answers 0 → n ≡ 0

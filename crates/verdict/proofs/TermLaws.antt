@@ -2,12 +2,12 @@
 use mathlib.Core.Path.{_≡_, sym, ap, ap₂, _∙_}
 use mathlib.Core.List.{List}
 use Prim.Native.Nat.{ℕ}
-use Rattle.relation.specs.Rel.{Set, Rel, either, both, minus, inverse, identity, from, into, image, chain, plus, optional, star, nodes}
+use Rattle.relation.specs.Rel.{Set, Rel, either, both, minus, inverse, identity, from, into, image, compose, plus, optional, star, nodes}
 use Rattle.relation.specs.Bits.{bit}
 use Rattle.models.specs.Recording.{SetName}
 use Rattle.models.specs.Graph.{Base}
 use Rattle.models.specs.Term.{Term, ⟨_⟩, ⟨codom_⟩, _⨾_, _∪_, _∩_, _∖_, opt, _⁻¹, _⁺, _*, eval}
-use Rattle.verdict.proofs.ChainLaws.{from-set, into-set, chain-assoc}
+use Rattle.relation.proofs.ComposeLaws.{from-set, into-set, compose-assoc}
 
 -- r is the relation t of the base B.
 pub record Is (B : Base) (t : Term) (r : Rel) : Type 0 where
@@ -34,9 +34,9 @@ module _ {B : Base} where
     unfolding eval
     is-minus p q e = given (e ∙ ap₂ minus (p .is) (q .is))
 
-    pub is-then : Is B t a → Is B u b → r ≡ chain nodes a b → Is B (t ⨾ u) r
+    pub is-then : Is B t a → Is B u b → r ≡ compose nodes a b → Is B (t ⨾ u) r
     unfolding eval
-    is-then p q e = given (e ∙ ap₂ (chain nodes) (p .is) (q .is))
+    is-then p q e = given (e ∙ ap₂ (compose nodes) (p .is) (q .is))
 
   module _ {t : Term} {a r : Rel} where
     pub is-inverse : Is B t a → r ≡ inverse a → Is B (t ⁻¹) r
@@ -63,11 +63,11 @@ module _ {B : Base} where
   module _ (row : List ℕ) {t : Term} {a r : Rel} where
     pub is-from : {n : SetName} → bit row ≡ B .set n → Is B t a → r ≡ from (bit row) a → Is B (⟨ n ⟩ ⨾ t) r
     unfolding eval
-    is-from q p e = given (e ∙ sym (from-set row a) ∙ ap₂ (λ (s : Set) (f : Rel). chain nodes (identity s) f) q (p .is))
+    is-from q p e = given (e ∙ sym (from-set row a) ∙ ap₂ (λ (s : Set) (f : Rel). compose nodes (identity s) f) q (p .is))
 
     pub is-into : {n : SetName} → bit row ≡ B .set n → Is B t a → r ≡ into a (bit row) → Is B (t ⨾ ⟨ n ⟩) r
     unfolding eval
-    is-into q p e = given (e ∙ sym (into-set row a) ∙ ap₂ (λ (s : Set) (f : Rel). chain nodes f (identity s)) q (p .is))
+    is-into q p e = given (e ∙ sym (into-set row a) ∙ ap₂ (λ (s : Set) (f : Rel). compose nodes f (identity s)) q (p .is))
 
     pub is-from-codom : {u : Term} {c : Rel} {s : Set} → s ≡ B .E → Is B u c → bit row ≡ image nodes s c → Is B t a → r ≡ from (bit row) a
         → Is B (⟨codom u ⟩ ⨾ t) r
@@ -75,9 +75,9 @@ module _ {B : Base} where
     is-from-codom {c = c} {s = s} q w i p e =
         given
         (e ∙ sym (from-set row a)
-        ∙ ap₂ (λ (f : Set) (g : Rel). chain nodes (identity f) g) (i ∙ ap₂ (image nodes) q (w .is)) (p .is))
+        ∙ ap₂ (λ (f : Set) (g : Rel). compose nodes (identity f) g) (i ∙ ap₂ (image nodes) q (w .is)) (p .is))
 
   -- Terms in another order.
   pub is-assoc : {t u v : Term} {r : Rel} → Is B ((t ⨾ u) ⨾ v) r → Is B (t ⨾ u ⨾ v) r
   unfolding eval
-  is-assoc p = given (p .is ∙ chain-assoc _ _ _)
+  is-assoc p = given (p .is ∙ compose-assoc _ _ _)

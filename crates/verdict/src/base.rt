@@ -1,13 +1,12 @@
 // The base of an execution graph as arrays: its sets as rows, its relations as grids, each at a fixed place.
 // specs/Base.antt reads the same places.
 
-pub type Row = [u8; 8];
+use relation::grid::Grid;
+use relation::row::Row;
 
-pub type Grid = [[u8; 8]; 64];
+pub type Sets = [Row; 14];
 
-pub type Sets = [[u8; 8]; 14];
-
-pub type Relations = [[[u8; 8]; 64]; 9];
+pub type Relations = [Grid; 9];
 
 // Places of the sets.
 pub const EVENTS: usize = 0;

@@ -1,10 +1,10 @@
 // What rules 1, 2 and 4 forbid, which every model has alike.
 // Each contract holds for every base that the arguments are taken from.
 
-use crate::base::Grid;
-use crate::base::Row;
 use relation::grid;
+use relation::grid::Grid;
 use relation::row;
+use relation::row::Row;
 ghost use mathlib.Core.Path.{_≡_};
 ghost use Rattle.relation.specs.Rel.{nodes};
 ghost use Rattle.relation.specs.Bits.{bit, edge};

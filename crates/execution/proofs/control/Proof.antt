@@ -1,6 +1,6 @@
 -- `control` meets its contract.
 use mathlib.Core.Path.{ap₂, _∙_}
-use Rattle.relation.specs.Rel.{chain, optional, nodes}
+use Rattle.relation.specs.Rel.{compose, optional, nodes}
 use Rattle.models.specs.Graph.{base}
 use borrow.Author.Needs.{needs}
 use Rattle.execution.proofs.control.Statement.{statement}
@@ -19,7 +19,7 @@ returns : tie.Need-returns
 unfolding base
 returns c =
     let start = c .before .before .before .before in
-    c .then .ensures ∙ ap₂ (chain nodes) (start .pre .2) (c .before .optional .ensures ∙ ap₂ optional (c .before .before .events .ensures) (start .pre .1))
+    c .then .ensures ∙ ap₂ (compose nodes) (start .pre .2) (c .before .optional .ensures ∙ ap₂ optional (c .before .before .events .ensures) (start .pre .1))
 
 pub control-spec : {M : Type 1} → statement M
 control-spec = tie.close (tie.spec events-requires optional-requires then-requires returns)

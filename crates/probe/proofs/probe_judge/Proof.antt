@@ -3,7 +3,7 @@ use mathlib.Core.Path.{_≡_, sym}
 use native.Mathlib.Omega.{arith}
 use lib.ListN.{length}
 use lib.Seq.{length-take-le}
-use Rattle.probe.proofs.CallLaws.{still-fits, printed-short, printed-both}
+use Rattle.probe.proofs.ProbeLaws.{still-fits, printed-short, printed-both}
 use borrow.Author.Needs.{needs}
 use Rattle.probe.proofs.probe_judge.Statement.{statement}
 use Rattle.probe.proofs.probe_judge.Tie as tie

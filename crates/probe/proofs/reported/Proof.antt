@@ -3,7 +3,7 @@ use mathlib.Core.Path.{_≡_, sym}
 use native.Mathlib.Omega.{arith}
 use lib.ListN.{length}
 use lib.Seq.{length-take-le}
-use Rattle.probe.proofs.CallLaws.{reported-refused, reported-allowed, reported-broken}
+use Rattle.probe.proofs.ProbeLaws.{reported-refused, reported-allowed, reported-broken}
 use borrow.Author.Needs.{needs}
 use Rattle.probe.proofs.reported.Statement.{statement}
 use Rattle.probe.proofs.reported.Tie as tie

@@ -1,6 +1,6 @@
 -- `stored` meets its contract: the bytes are stored, or nothing is.
 use native.Mathlib.Omega.{arith}
-use Rattle.probe.proofs.CallLaws.{stored-short, stored-fits}
+use Rattle.probe.proofs.ProbeLaws.{stored-short, stored-fits}
 use borrow.Author.Needs.{needs}
 use Rattle.probe.proofs.stored.Statement.{statement}
 use Rattle.probe.proofs.stored.Tie as tie

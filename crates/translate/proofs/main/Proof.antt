@@ -4,7 +4,7 @@ use Prim.Native.Nat.{ℕ, _≤_}
 use native.Mathlib.Omega.{arith}
 use lib.ListN.{length}
 use lib.Seq.{length-take-le}
-use Rattle.translation.proofs.CallLaws.{input-fits}
+use Rattle.translation.proofs.TranslationCall.{input-fits}
 use borrow.Author.Needs.{needs}
 use Rattle.translate.proofs.main.Statement.{statement}
 use Rattle.translate.proofs.main.Tie as tie

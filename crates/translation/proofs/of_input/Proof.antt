@@ -3,7 +3,7 @@ use mathlib.Core.Path.{_≡_, sym}
 use native.Mathlib.Omega.{arith}
 use lib.ListN.{length}
 use lib.Seq.{length-take-le}
-use Rattle.translation.proofs.CallLaws.{answers-input}
+use Rattle.translation.proofs.TranslationCall.{answers-input}
 use borrow.Author.Needs.{needs}
 use Rattle.translation.proofs.of_input.Statement.{statement}
 use Rattle.translation.proofs.of_input.Tie as tie

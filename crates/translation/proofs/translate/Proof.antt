@@ -1,6 +1,6 @@
 -- `translate` meets its contract: refused as loading says, or written.
 use mathlib.Core.Path.{sym, _∙_}
-use Rattle.translation.proofs.CallLaws.{refused-early}
+use Rattle.translation.proofs.TranslationCall.{refused-early}
 use borrow.Author.Needs.{needs}
 use Rattle.translation.proofs.translate.Statement.{statement}
 use Rattle.translation.proofs.translate.Tie as tie

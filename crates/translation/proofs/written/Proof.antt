@@ -3,7 +3,7 @@ use mathlib.Core.Path.{ap, _∙_}
 use mathlib.Core.List.{[]}
 use native.Mathlib.Omega.{arith}
 use Rattle.translation.specs.Parts.{placed}
-use Rattle.translation.proofs.CallLaws.{source-of, refused-short, events-room, links-part, all-written}
+use Rattle.translation.proofs.TranslationCall.{source-of, refused-short, events-room, links-part, all-written}
 use Rattle.translation.proofs.LinkRows.{ends-few}
 use borrow.Author.Needs.{needs}
 use Rattle.translation.proofs.written.Statement.{statement}

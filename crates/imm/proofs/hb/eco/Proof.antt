@@ -1,10 +1,10 @@
 -- `hb::eco` meets its contract: co and fr go on together.
 use mathlib.Core.Path.{refl, sym, ap, _∙_}
-use Rattle.relation.specs.Rel.{Rel, either, chain, nodes}
+use Rattle.relation.specs.Rel.{Rel, either, compose, nodes}
 use Rattle.relation.specs.Bits.{edge}
 use Rattle.models.specs.Term.{eval}
 use Rattle.models.specs.Imm.{eco}
-use Rattle.verdict.proofs.ChainLaws.{either-chain, either-assoc}
+use Rattle.relation.proofs.ComposeLaws.{either-compose, either-assoc}
 use Rattle.verdict.proofs.TermLaws.{holds, given, is-union, is-then, is-opt}
 use borrow.Author.Needs.{needs}
 use Rattle.imm.proofs.hb.eco.Statement.{statement}
@@ -28,7 +28,7 @@ returns c =
     λ B e f k r. let after-optional = c .before .before in
     let a = after-optional .before .before .args in
     let rest = edge (after-optional .optional .result) in
-    let parted = c .before .then .ensures ∙ ap (λ (s : Rel). chain nodes s rest) (after-optional .before .or .ensures) ∙ either-chain (edge (a .co)) (edge (a .fr)) rest in
+    let parted = c .before .then .ensures ∙ ap (λ (s : Rel). compose nodes s rest) (after-optional .before .or .ensures) ∙ either-compose (edge (a .co)) (edge (a .fr)) rest in
     holds B eco
     (is-union (is-union (given f) (is-then (given k) (is-opt e (given f) (after-optional .optional .ensures)) refl) refl)
     (is-then (given r) (is-opt e (given f) (after-optional .optional .ensures)) refl) (c .or2 .ensures ∙ ap (either (edge (a .rf))) parted ∙ sym (either-assoc _ _ _)))

@@ -4,7 +4,7 @@ use mathlib.Core.Logic.{inl, inr}
 use Prim.Native.Nat.{_-_, _≤_}
 use borrow.Author.Tests.{lt-ltb, le-ltb}
 use lib.ListN.{length}
-use Rattle.relation.specs.Rel.{diagonal, chain, inverse, nodes}
+use Rattle.relation.specs.Rel.{diagonal, compose, inverse, nodes}
 use Rattle.relation.specs.Bits.{bit, edge}
 use Rattle.relation.proofs.SetLaws.{upto, upto-none, upto-with, upto-keep, upto-done}
 use Rattle.relation.proofs.GridLaws.{returning-at, returning-out}
@@ -13,7 +13,7 @@ use Rattle.relation.proofs.grid.returning.Statement.{statement}
 use Rattle.relation.proofs.grid.returning.Tie as tie
 
 abbrev Inv-loop : tie.InvT-loop
-Inv-loop a b r₀ i₀ r i = (i ≤ 64) × (bit r ≡ upto i (diagonal (chain nodes (edge a) (inverse (edge b))))) × (length a ≡ 64)
+Inv-loop a b r₀ i₀ r i = (i ≤ 64) × (bit r ≡ upto i (diagonal (compose nodes (edge a) (inverse (edge b))))) × (length a ≡ 64)
 
 abbrev μ-loop : tie.MeasureT-loop
 μ-loop a b r₀ i₀ r i = 64 - i

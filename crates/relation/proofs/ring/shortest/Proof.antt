@@ -4,7 +4,7 @@ use mathlib.Core.Bool.{false}
 use Prim.Native.Nat.{ℕ, _-_, _≤_, _<_}
 use native.Mathlib.Omega.{arith}
 use borrow.Author.Count.{below-none, below-more}
-use Rattle.relation.specs.Rel.{inverse, chain, nodes}
+use Rattle.relation.specs.Rel.{inverse, compose, nodes}
 use Rattle.relation.specs.Bits.{edge}
 use Rattle.relation.specs.Ring.{power}
 use Rattle.relation.proofs.RingLaws.{power-identity, power-then, shortest-by, round-found, round-none}
@@ -13,7 +13,7 @@ use Rattle.relation.proofs.ring.shortest.Statement.{statement}
 use Rattle.relation.proofs.ring.shortest.Tie as tie
 
 abbrev Inv-loop : tie.InvT-loop
-Inv-loop g back p₀ n₀ p n = (n ≤ 64) × (edge p ≡ power n (edge g)) × ((m : ℕ) → m < n → (t : ℕ) → chain nodes (power m (edge g)) (inverse (edge back)) t t ≡ false)
+Inv-loop g back p₀ n₀ p n = (n ≤ 64) × (edge p ≡ power n (edge g)) × ((m : ℕ) → m < n → (t : ℕ) → compose nodes (power m (edge g)) (inverse (edge back)) t t ≡ false)
 
 abbrev μ-loop : tie.MeasureT-loop
 μ-loop g back p₀ n₀ p n = 64 - n

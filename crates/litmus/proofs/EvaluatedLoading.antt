@@ -8,14 +8,14 @@ use native.Mathlib.Omega.{arith}
 use borrow.Author.Tests.{eqb-true, ltb-false, not-false}
 use lib.Dec.{T, eqb}
 use lib.ListN.{getD}
-use Rattle.relation.specs.Rel.{Set, Rel, union, either, diagonal, some, image, chain, through, plus, inverse, optional, below, nodes}
+use Rattle.relation.specs.Rel.{Set, Rel, union, either, diagonal, some, image, compose, through, plus, inverse, optional, below, nodes}
 use Rattle.relation.proofs.Meaning.{Mem, and-left, and-right, and-both, some-sound, some-complete}
 use Rattle.models.specs.Recording.{Recording, read, write, access, exclusiveRead, coStep, event, ofClass, flagged, sameLocation}
 use Rattle.models.specs.Steps.{Plus, one, cons}
 use Rattle.models.specs.Graph.{base}
 use Rattle.models.proofs.Tests.{T-ext, some-intro, some-witness, below-listed, plus-steps, Tests, plus-tests}
-use Rattle.models.proofs.Sets.{step-cases, CoStep, linked, initially}
-use Rattle.models.proofs.Table.{orAll}
+use Rattle.models.proofs.MemberLaws.{step-cases, CoStep, linked, initially}
+use Rattle.models.proofs.EvalTable.{orAll}
 use Rattle.layout.specs.Layout.{kind, events, isSource, kindKnown, mostEvents, mostLinks, linkByte}
 use Rattle.layout.specs.Chains.{each, linksInto, among, follow, met, fresh, onceEach, nextOf, startOf, allOf}
 use Rattle.layout.specs.Decode.{isRecorded, isInitial, recordOr, fieldOr, decode}
@@ -86,7 +86,7 @@ module _ (f : List ℕ) where
 
   -- The causes. To unfold it is to unfold all that it computes with.
   unfoldable pub causes : List Bool
-  unfolding eventList fromReadBy linkLegalBy twoSources oneSourceBy linkSoundBy linksSoundBy coBetween coRingBy union either diagonal some image chain through plus inverse optional below ofClass flagged access event sameLocation coStep base isSource kindKnown mostEvents mostLinks each among follow met fresh onceEach nextOf startOf isRecorded isInitial recordOr fieldOr decode readLegal writeLegal fenceMode fenceLegal legal eventLegal headerOver sameLocations rfLegal coLegal rmwLegal allOf pairedAt tooShort kindUnknown overLimit wrongLength badEvent badThreads badChains unpaired
+  unfolding eventList fromReadBy linkLegalBy twoSources oneSourceBy linkSoundBy linksSoundBy coBetween coRingBy union either diagonal some image compose through plus inverse optional below ofClass flagged access event sameLocation coStep base isSource kindKnown mostEvents mostLinks each among follow met fresh onceEach nextOf startOf isRecorded isInitial recordOr fieldOr decode readLegal writeLegal fenceMode fenceLegal legal eventLegal headerOver sameLocations rfLegal coLegal rmwLegal allOf pairedAt tooShort kindUnknown overLimit wrongLength badEvent badThreads badChains unpaired
   causes =
       tooShort f ∷ kindUnknown f ∷ overLimit f ∷ wrongLength f ∷ badEvent f ∷ badThreads f ∷ badChains f ∷ not (each (events f) linksSoundBy) ∷ coRingBy ∷ unpaired f
       ∷ []

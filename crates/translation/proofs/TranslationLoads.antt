@@ -15,7 +15,7 @@ use Rattle.models.specs.Recording.{Recording, event, read, write, strongWrite}
 use Rattle.models.specs.Loads.{Loads}
 use Rattle.models.specs.Translated.{Translated}
 use Rattle.models.proofs.FromTranslated.{translation-loads}
-use Rattle.models.proofs.Sets.{class-event}
+use Rattle.models.proofs.MemberLaws.{class-event}
 use Rattle.layout.specs.Layout.{kind, events, locations, threads, isSource, kindKnown, mostEvents, mostLinks, fullLength, linkByte}
 use Rattle.layout.specs.Chains.{nextEvent, head, follow, chain, met, onceEach, linksInto, allOf}
 use Rattle.layout.specs.Decode.{decode}
@@ -24,7 +24,7 @@ use Rattle.layout.proofs.ChainLaws.{follow-in, follow-over}
 use Rattle.translation.specs.Contents.{Contents, contents}
 use Rattle.translation.specs.Translate.{flagged, strong, newEvents, after, newFlag, translated}
 use Rattle.translation.specs.Encode.{linksBefore, linksUpTo, linkRecord, encode}
-use Rattle.translation.specs.Answer.{chip, translation}
+use Rattle.translation.specs.TranslationAnswer.{chip, translation}
 use Rattle.translation.specs.Parts.{Source}
 use Rattle.relation.proofs.Truth.{is-true, holds, is-false, by-test}
 use Rattle.recording.proofs.Accepted.{Accepted, accepts, each-all, legal-event, threads-sound}

@@ -19,7 +19,7 @@ use Rattle.recording.proofs.Longest.{read-of, read-itself}
 use Rattle.translation.specs.Contents.{contents}
 use Rattle.translation.specs.Translate.{newEvents, translated}
 use Rattle.translation.specs.Encode.{linksUpTo, header, eventRecords, linkRecords, encode}
-use Rattle.translation.specs.Answer.{chip, translation, cause, answer, translationOf, filled, outputOf}
+use Rattle.translation.specs.TranslationAnswer.{chip, translation, cause, answer, translationOf, filled, outputOf}
 use Rattle.translation.specs.Parts.{Source, placed}
 use Rattle.translation.specs.declared.Translation.{Translation}
 use Rattle.translation.specs.declared.Translation.the-variants.{Refused, Written}

@@ -5,7 +5,7 @@ use mathlib.Core.List.{List, [], _∷_, map, zipWith, List·Memᴰ, List·Memᴰ
 use mathlib.Core.Path.{_≡_, refl, sym, ap, ap₂, _∙_, subst}
 use Prim.Native.Nat.{ℕ}
 use lib.Dec.{T, eqb, eqb→eq, eqb-refl}
-use Rattle.relation.specs.Rel.{Set, Rel, union, intersection, difference, either, both, minus, inverse, identity, some, image, chain, through, plus, optional, diagonal}
+use Rattle.relation.specs.Rel.{Set, Rel, union, intersection, difference, either, both, minus, inverse, identity, some, image, compose, through, plus, optional, diagonal}
 use Rattle.models.specs.Recording.{Recording, event, ofClass, ofMode, flagged, acquireFence, releaseFence, access, sameLocation, coStep, R, W, member}
 use Rattle.models.specs.Graph.{Execution, Base, base}
 use Rattle.models.specs.Term.{Term, loc, po, rf, co, rmw, «data», addr, ctrl, casdep, ⟨_⟩, ⟨codom_⟩, _⨾_, _∪_, _∩_, _∖_, opt, _⁻¹, _⁺, eval}
@@ -90,8 +90,8 @@ unfolding picked blank some
 picked-row es [] p s = refl
 picked-row es (k ∷ ks) p s = pick es (p k) (s k) (λ j. some ks (λ k. p k && s k j)) (picked es (map p ks) (table ks es s)) (picked-row es ks p s)
 
-times-table : (ms ks es : List ℕ) (r s : Rel) → times es (table ms ks r) (table ks es s) ≡ table ms es (chain ks r s)
-unfolding times chain image
+times-table : (ms ks es : List ℕ) (r s : Rel) → times es (table ms ks r) (table ks es s) ≡ table ms es (compose ks r s)
+unfolding times compose image
 times-table ms ks es r s = map-map (λ x. picked es x (table ks es s)) (λ i. map (r i) ks) ms ∙ map-congr _ _ ms (λ i. picked-row es ks (r i) s)
 
 turned-table : (ks es : List ℕ) (r : Rel) → turned es (table ks es r) ≡ table es ks (inverse r)

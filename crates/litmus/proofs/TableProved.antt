@@ -10,13 +10,13 @@ use lib.ListN.{length}
 use Rattle.relation.specs.Rel.{count, least}
 use Rattle.relation.proofs.Meaning.{and-left, and-right}
 use Rattle.models.specs.Rules.{IMM, ARMv8}
-use Rattle.models.proofs.Table.{orAll, tableVerdict}
+use Rattle.models.proofs.EvalTable.{orAll, tableVerdict}
 use Rattle.layout.specs.Layout.{kind}
 use Rattle.recording.specs.Causes.{refusal}
 use Rattle.translation.specs.Contents.{Contents, contents}
 use Rattle.translation.specs.Translate.{flagged, inserted, newEvents, fenced, after, follows, keptOr, newMode, newFlag, controlled, fromExclusive, fromCasdep, newLink, translated}
 use Rattle.translation.specs.Encode.{eventRecord}
-use Rattle.translation.specs.Answer.{translation}
+use Rattle.translation.specs.TranslationAnswer.{translation}
 use Rattle.translation.specs.Parts.{Source}
 use Rattle.translation.proofs.EncodeLaws.{encode-events, encode-locations, encode-event}
 use Rattle.translation.proofs.EncodedLinks.{encoded-link}
@@ -27,7 +27,7 @@ use Rattle.soundness.specs.Soundness.{LoadsAs, immVerdict, armv8Verdict}
 use Rattle.soundness.proofs.Proved.{soundness}
 use Rattle.litmus.specs.Table.{Row, Holds, table, Litmus, empty, messagePassing, releaseAcquire, loadBuffering, loadBufferingData, storeBuffering, storeBufferingFences, independentReads, twoPairs, newerBeforeOlder, normalPair, strongPair}
 use Rattle.litmus.proofs.Recorded.{eventList, hasRecord, saidOr, recordingOf, verdict-computed}
-use Rattle.litmus.proofs.Loading.{causes, passes-loads}
+use Rattle.litmus.proofs.EvaluatedLoading.{causes, passes-loads}
 
 -- The bytes of a source file that loads, and of its translation, say what the contents say.
 module _ (f : List ℕ) (s : Source f) where
