@@ -3,13 +3,11 @@ use mathlib.Core.Path.{_≡_, refl, sym, ap, subst, _∙_}
 use mathlib.Core.List.{List, _++_}
 use Prim.Native.Nat.{ℕ, zero, suc, _≤_}
 use native.Mathlib.Omega.{arith}
-use borrow.Author.Tests.{le-ltb, eq-eqb}
+use borrow.Author.Tests.{le-ltb}
 use lib.ListN.{length, take, drop, length-append}
 use lib.Seq.{take-append-seam}
-use Rattle.layout.specs.Layout.{kind}
-use Rattle.recording.specs.Causes.{refusal}
 use Rattle.recording.specs.Load.{causeFor}
-use Rattle.recording.proofs.CauseLaws.{cause-goes-on}
+use Rattle.recording.proofs.CauseLaws.{cause-goes-on, cause-own}
 use Rattle.verdict.specs.declared.Verdict.{Verdict}
 use Rattle.translation.specs.TranslationAnswer.{translation, cause, answer, translationOf, filled, outputOf}
 use Rattle.translation.specs.declared.Translation.{Translation}
@@ -19,10 +17,6 @@ use Rattle.translation.proofs.Theorems.{few-bytes}
 use Rattle.soundness.specs.Soundness.{LoadsAs}
 use Rattle.soundness.proofs.Proved.{soundness}
 use Rattle.judgement.specs.Judgement.{OnChip}
-
-cause-own : (k : ℕ) (f : List ℕ) → refusal f ≡ 0 → kind f ≡ k → causeFor k f ≡ 0
-unfolding causeFor
-cause-own k f e q = rw (e, causeFor) (rw (eq-eqb (kind f) k q))
 
 pub loads-source : (f : List ℕ) → causeFor 1 f ≡ 0 → LoadsAs 1 f
 loads-source f p = let w = cause-goes-on 1 f p in record { loads = w .0; kind-is = w .1 }

@@ -403,7 +403,11 @@ cause-none k f a h p q e =
     let (u, v) = loaded-answer f a h p q in
     rw (u, causeFor) (rw (eq-eqb (kind f) k (sym (ap (λ (x : Header). x .kind) v) ∙ e)))
 
--- A call that goes on has a file that loads and is of its kind.
+-- A call goes on with a file that loads and is of its kind, and with no other.
+pub cause-own : (k : ℕ) (f : List ℕ) → refusal f ≡ 0 → kind f ≡ k → causeFor k f ≡ 0
+unfolding causeFor
+cause-own k f e q = rw (e, causeFor) (rw (eq-eqb (kind f) k q))
+
 pub cause-goes-on : (k : ℕ) (f : List ℕ) → causeFor k f ≡ 0 → (refusal f ≡ 0) × (kind f ≡ k)
 unfolding causeFor
 cause-goes-on k f p = by-refusal (refusal f) refl

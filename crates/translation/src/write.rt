@@ -18,7 +18,7 @@ ghost use Rattle.translation.specs.TranslationAnswer.{chip};
 ghost use Rattle.translation.specs.Parts.{Source, NewEvent, Ready, Ends, placed, rowRecord, linkStretch};
 
 // The header: kind 2, the new N and M, the old L and heads.
-pub fn header(file: &[u8], n: usize, m: usize) -> Row
+pub fn header(file: &[u8], n: usize, m: usize) -> [u8; 8]
     requires { ⌜ Source (now file) × (n ≡ newEvents (contents (now file))) × (m ≡ linksUpTo (chip (now file)) n) ⌝ }
     ensures { λ r. ⌜ r ≡ header (chip (now (file .entry))) ⌝ }
 {
@@ -35,7 +35,7 @@ pub fn header(file: &[u8], n: usize, m: usize) -> Row
 }
 
 // The record of event e, whose first link is given.
-pub fn event_record(file: &[u8], e: usize, first: usize) -> Row
+pub fn event_record(file: &[u8], e: usize, first: usize) -> [u8; 8]
     requires { ⌜ Source (now file) × NewEvent (contents (now file)) e × (first < 256) × (first ≡ chained (linksUpTo (chip (now file)) e) (linksBefore (chip (now file)) (512 * e))) ⌝ }
     ensures { λ r. ⌜ r ≡ eventRecord (chip (now (file .entry))) e ⌝ }
 {
