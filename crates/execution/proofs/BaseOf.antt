@@ -6,7 +6,7 @@ use native.Mathlib.Omega.{arith}
 use lib.ListN.{getD}
 use Rattle.relation.specs.Rel.{Rel, inverse, nodes}
 use Rattle.relation.specs.Bits.{edge}
-use Rattle.models.specs.Recording.{Recording, SetName}
+use Rattle.models.specs.Recording.{Recording}
 use Rattle.models.specs.Graph.{Base, base}
 use Rattle.layout.specs.Decode.{decode}
 use Rattle.recording.specs.Causes.{refusal}

@@ -9,7 +9,7 @@ use lib.Seq.{take-append-seam}
 use Rattle.recording.specs.Load.{causeFor}
 use Rattle.recording.proofs.CauseLaws.{cause-goes-on, cause-own}
 use Rattle.verdict.specs.declared.Verdict.{Verdict}
-use Rattle.translation.specs.TranslationAnswer.{translation, cause, answer, translationOf, filled, outputOf}
+use Rattle.translation.specs.TranslationAnswer.{translation, cause, translationOf, filled, outputOf}
 use Rattle.translation.specs.declared.Translation.{Translation}
 use Rattle.translation.specs.declared.Translation.the-variants.{Refused, Written}
 use Rattle.translation.proofs.TranslationCall.{answer-written, answer-refused}

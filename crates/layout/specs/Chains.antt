@@ -4,7 +4,7 @@ use mathlib.Core.Bool.{Bool, true, false, _&&_, _||_, not}
 use mathlib.Core.List.{List, [], _∷_, _++_}
 use Prim.Native.Nat.{ℕ, zero, suc, _+_, _-_, _*_, _<_, _≤_}
 use lib.Dec.{eqb, leb}
-use lib.ListN.{length, getD, take}
+use lib.ListN.{length, getD}
 use Rattle.layout.specs.Layout.{byte, events, links, headerSize, eventSize, linkSize, linkStart, threads}
 
 -- Whether x stands in the list.
@@ -72,9 +72,16 @@ nextLink f = nextOf f (linkStart f) linkSize
 abbrev pub firstLink : List ℕ → ℕ → ℕ
 firstLink f = startOf f 15 eventSize
 
+-- The events of thread t in their order, and those of the first n threads, one thread behind the other.
+abbrev pub thread : List ℕ → ℕ → List ℕ
+thread f t = chain (events f) (nextEvent f) (head f t)
+
+abbrev pub threadsUpTo : List ℕ → ℕ → List ℕ
+threadsUpTo f n = met (events f) (nextEvent f) (head f) n
+
 -- Cause 6's and cause 7's opposites.
 abbrev pub threadsSound : List ℕ → Bool
-threadsSound f = onceEach (events f) (met (events f) (nextEvent f) (head f) threads)
+threadsSound f = onceEach (events f) (threadsUpTo f threads)
 
 abbrev pub linksSound : List ℕ → Bool
 linksSound f = onceEach (links f) (met (links f) (nextLink f) (firstLink f) (events f))

@@ -1,11 +1,11 @@
 -- The recording that a file holds (01, "The recording"), read at the places that Layout names.
-use mathlib.Core.Bool.{Bool, true, false, _&&_, _||_}
-use mathlib.Core.List.{List, [], _∷_}
+use mathlib.Core.Bool.{Bool, true, false, _&&_}
+use mathlib.Core.List.{List}
 use Prim.Native.Nat.{ℕ, _+_, _-_, _*_}
 use lib.Dec.{eqb, leb, ltb}
 use Rattle.relation.specs.Rel.{some}
 use Rattle.models.specs.Recording.{Recording}
-use Rattle.layout.specs.Layout.{byte, events, locations, eventByte, linkByte, firstInitial}
+use Rattle.layout.specs.Layout.{events, locations, eventByte, linkByte, firstInitial}
 use Rattle.layout.specs.Chains.{nextEvent, linksInto}
 
 -- Event records are numbered from 1 to N.

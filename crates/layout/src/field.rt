@@ -4,7 +4,7 @@
 ghost use mathlib.Core.Path.{_≡_};
 ghost use Prim.Native.Nat.{_≤_, _<_};
 ghost use Rattle.models.specs.Recording.{event, ofClass, flagged, access};
-ghost use Rattle.layout.specs.Layout.{byte, events, locations, links, eventByte, linkByte, Sized, Following};
+ghost use Rattle.layout.specs.Layout.{events, locations, links, eventByte, linkByte, Sized, Following};
 ghost use Rattle.layout.specs.Decode.{isRecorded, isInitial, fieldOr, decode};
 
 // The number of event records.

@@ -23,7 +23,7 @@ use Rattle.recording.specs.Causes.{readLegal, writeLegal, fenceMode, fenceLegal
 use Rattle.relation.proofs.Truth.{is-true, holds, is-false}
 use Rattle.layout.proofs.FieldLaws.{recorded-bounds}
 use Rattle.layout.proofs.ChainLaws.{each-at}
-use Rattle.recording.proofs.Accepted.{Accepted, accepts, each-all}
+use Rattle.recording.proofs.Accepted.{accepts, each-all}
 use Rattle.litmus.proofs.Recorded.{eventList, recorded-listed}
 
 -- One or more steps, over two lists that hold all that r joins.

@@ -21,7 +21,7 @@ use Rattle.layout.specs.Decode.{isRecorded, isInitial, recordOr, fieldOr, decod
 use Rattle.recording.specs.Causes.{refusal}
 use Rattle.recording.proofs.Loaded.{loaded-within}
 use Rattle.translation.specs.Contents.{Contents}
-use Rattle.translation.proofs.Says.{Says, Event, initially, recorded, event-says, Bytes, bytes-say}
+use Rattle.translation.proofs.Says.{Event, initially, recorded, event-says, Bytes, bytes-say}
 
 -- The events of a file with n records and l locations: n down to 1, and 56 + l - 1 down to 56.
 unfoldable pub eventList : ℕ → ℕ → List ℕ

@@ -2,7 +2,6 @@
 use mathlib.Core.Path.{_≡_, refl, sym, ap, ap₂, subst, _∙_, fun-ext}
 use mathlib.Core.Bool.{Bool, true, false, _&&_, _||_}
 use mathlib.Core.List.{List, [], _∷_}
-use mathlib.Core.Logic.{inl, inr}
 use Prim.Native.Nat.{ℕ, zero, suc, _+_, _<_, _≤_}
 use native.Mathlib.Omega.{arith}
 use native.Mathlib.Decide.{ℕ-discrete}
@@ -10,19 +9,17 @@ use borrow.Author.Tests.{eq-eqb, ne-eqb, eqb-true, ltb-true, leb-true}
 use lib.Dec.{eqb, leb, ltb}
 use lib.ListN.{length, getD, set, replicate, length-set}
 use lib.Seq.{getD-set-same, getD-set-other}
-use Rattle.relation.specs.Rel.{Set, Rel, empty, none, single, union, intersection, product, inverse, either, both, below}
+use Rattle.relation.specs.Rel.{Set, Rel, empty, none, single, union, intersection, product, inverse, either, both}
 use Rattle.relation.specs.Bits.{bit, edge}
 use Rattle.relation.proofs.GridLaws.{Rows, rows-skip}
-use Rattle.relation.proofs.Meaning.{and-left, and-right, and-both, or-either}
+use Rattle.relation.proofs.Meaning.{and-left, and-right, and-both}
 use Rattle.relation.proofs.SetLaws.{and-false, upto, upto-none, upto-with, upto-keep, upto-skip, upto-done}
 use Rattle.models.specs.Recording.{event, ofClass, access, sameLocation, coStep}
 use Rattle.layout.specs.Layout.{events, locations, Sized, Following}
-use Rattle.layout.specs.Chains.{each}
 use Rattle.layout.specs.Decode.{isRecorded, isInitial, decode}
 use Rattle.reading.specs.Sets.{accessAt, Located, AccessRows, SourcesInto, LinkRows}
 use Rattle.relation.proofs.Truth.{is-false}
-use Rattle.layout.proofs.FieldLaws.{recorded-bounds, location-initial}
-use Rattle.layout.proofs.ChainLaws.{each-at}
+use Rattle.layout.proofs.FieldLaws.{recorded-bounds}
 use Rattle.reading.proofs.LinkLaws.{empty-row}
 
 -- No number from 64 on is an event's.

@@ -1,13 +1,13 @@
 -- Laws of walks along the links into an event.
 use mathlib.Core.Path.{_≡_, refl, sym, ap, ap₂, subst, _∙_, fun-ext}
-use mathlib.Core.Bool.{Bool, true, false, not, _&&_, _||_, false≢true}
+use mathlib.Core.Bool.{Bool, true, false, _&&_, _||_}
 use mathlib.Core.List.{List, [], _∷_}
 use Prim.Native.Nat.{ℕ, zero, suc, _+_, _-_, _*_, _<_, _≤_}
 use native.Mathlib.Numerals.{add-one}
 use native.Mathlib.Omega.{arith}
 use native.Mathlib.Decide.{ℕ-discrete}
 use borrow.Author.Tests.{ne-eqb, eq-eqb, leb-true, ltb-true}
-use lib.Dec.{eqb, leb, ltb}
+use lib.Dec.{eqb, ltb}
 use lib.ListN.{length, getD, set, replicate, length-set}
 use lib.Seq.{getD-set-same, getD-set-other}
 use lib.Bits.{bitAnd, and-mask}
@@ -16,14 +16,14 @@ use Rattle.relation.specs.Bits.{bit, edge}
 use Rattle.relation.proofs.ByteLaws.{bit-none}
 use Rattle.relation.proofs.GridLaws.{bit-nil}
 use Rattle.relation.proofs.Meaning.{and-left, and-right}
-use Rattle.relation.proofs.SetLaws.{or-assoc, or-false, and-false}
-use Rattle.layout.specs.Layout.{events, links, linkByte, Sized}
-use Rattle.layout.specs.Chains.{follow, chain, nextOf, nextLink, firstLink, linksInto, allOf}
-use Rattle.layout.specs.Decode.{isRecorded, decode}
+use Rattle.relation.proofs.SetLaws.{or-assoc, or-false}
+use Rattle.layout.specs.Layout.{events, links, linkByte}
+use Rattle.layout.specs.Chains.{follow, nextOf, nextLink, firstLink, linksInto, allOf}
+use Rattle.layout.specs.Decode.{decode}
 use Rattle.reading.specs.Sets.{SourcesInto}
 use Rattle.reading.specs.Readable.{within, readable}
 use Rattle.layout.proofs.FieldLaws.{recorded-is}
-use Rattle.layout.proofs.ChainLaws.{follow-in, follow-none, follow-end}
+use Rattle.layout.proofs.ChainLaws.{follow-in}
 
 pub within-le : (f : List ℕ) (m : ℕ) → within f m ≡ true → m ≤ links f
 unfolding within

@@ -17,7 +17,7 @@ use Rattle.relation.proofs.Meaning.{Steps, one, more, and-left, and-right, or-e
 use Rattle.relation.proofs.SetLaws.{and-false, or-false}
 use Rattle.models.specs.Graph.{base}
 use Rattle.layout.specs.Layout.{events, eventByte, threads, Sized}
-use Rattle.layout.specs.Chains.{among, chain, met, fresh, allMet, onceEach, nextEvent, head, threadsSound}
+use Rattle.layout.specs.Chains.{among, chain, met, fresh, allMet, onceEach, nextEvent, head, threadsSound, thread, threadsUpTo}
 use Rattle.layout.specs.Decode.{isRecorded, isInitial, decode}
 use Rattle.reading.specs.Sets.{Line}
 use Rattle.relation.proofs.Truth.{is-false, same-test, by-test}
@@ -84,24 +84,27 @@ pub line-none : (f at : List ℕ) → Line f 0 0 at
 unfolding met
 line-none f at = record { bounded = omega arith; listed = refl }
 
+pub line-all : (f : List ℕ) (t len : ℕ) (at : List ℕ) → Line f t len at → t ≤ threads → threads ≤ t → Line f threads len at
+line-all f t len at w h g = subst (λ (k : ℕ). Line f k len at) (omega arith) w
+
 -- The line so far, and the rest of a thread's chain.
 pub record Partway (f : List ℕ) (t x len : ℕ) (at : List ℕ) : Type 0 where
   pub rest : List ℕ
   pub ended : Ended (events f) (nextEvent f) x rest
   pub long : length at ≡ 64
   pub room : len + length rest ≤ 48
-  pub whole : take len at ++ rest ≡ met (events f) (nextEvent f) (head f) (t + 1)
+  pub whole : take len at ++ rest ≡ threadsUpTo f (t + 1)
 
 module _ (f : List ℕ) (s : Sized f) (sound : threadsSound f ≡ true) where
-  threads-fresh : fresh (events f) [] (met (events f) (nextEvent f) (head f) threads) ≡ true
+  threads-fresh : fresh (events f) [] (threadsUpTo f threads) ≡ true
   unfolding onceEach
   threads-fresh = and-left _ _ sound
 
   pub partway-start : (t x len : ℕ) (at : List ℕ) → t < threads → Line f t len at → length at ≡ 64 → x ≡ head f t → Partway f t x len at
   unfolding met
   partway-start t x len at h line l e =
-      let rest = chain (events f) (nextEvent f) (head f t) in
-      let whole : take len at ++ rest ≡ met (events f) (nextEvent f) (head f) (suc t) = ap (λ (k : List ℕ). k ++ rest) (line .listed) in
+      let rest = thread f t in
+      let whole : take len at ++ rest ≡ threadsUpTo f (suc t) = ap (λ (k : List ℕ). k ++ rest) (line .listed) in
       let most = met-length (events f) (nextEvent f) (head f) threads (suc t) (omega arith) threads-fresh in
       let front = length-take-le len at (omega (arith, line .bounded, l)) in
       let sum = sym (length-append (take len at) rest) ∙ ap length whole in
@@ -232,7 +235,7 @@ module _ (f : List ℕ) where
 
 -- The line of all threads, and the event at a place of it.
 abbrev lined : List ℕ → List ℕ
-lined f = met (events f) (nextEvent f) (head f) threads
+lined f = threadsUpTo f threads
 
 -- Program order made along the line from its end: from place k on the rows are done, the others hold what initial writes come before.
 pub record Backward (f : List ℕ) (k : ℕ) (h : List (List ℕ)) : Type 0 where

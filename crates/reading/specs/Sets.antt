@@ -8,8 +8,8 @@ use lib.ListN.{length, getD, take}
 use Rattle.relation.specs.Rel.{Set, intersection, inverse}
 use Rattle.relation.specs.Bits.{bit, edge}
 use Rattle.models.specs.Recording.{access}
-use Rattle.layout.specs.Layout.{events, eventByte}
-use Rattle.layout.specs.Chains.{met, nextEvent, head}
+use Rattle.layout.specs.Layout.{eventByte}
+use Rattle.layout.specs.Chains.{threadsUpTo}
 use Rattle.layout.specs.Decode.{isRecorded, decode}
 
 -- The reads and writes of location l.
@@ -50,4 +50,4 @@ pub record LinkRows (f : List ℕ) (grids : List (List (List ℕ))) : Type 0 whe
 -- The first len of `at` are the events of the first n threads, each thread in its order, one thread behind the other.
 pub record Line (f : List ℕ) (n len : ℕ) (at : List ℕ) : Type 0 where
   pub bounded : len ≤ 64
-  pub listed : take len at ≡ met (events f) (nextEvent f) (head f) n
+  pub listed : take len at ≡ threadsUpTo f n

@@ -31,12 +31,15 @@ pub fn line(file: &[u8]) -> Sequence
     requires { ⌜ Sized (now file) × (threadsSound (now file) ≡ true) ⌝ }
     ensures { λ r. ⌜ Line (now (file .entry)) threads (r .len) (r .at) ⌝ }
 {
-    let none = Sequence {
+    let mut r = Sequence {
         at: [0u8; 64],
         len: 0,
     };
-    let one = along(file, 0, none);
-    let two = along(file, 1, one);
-    let three = along(file, 2, two);
-    along(file, 3, three)
+    let mut t: usize = 0;
+    while t < 4 {
+        let more = along(file, t, r);
+        r = more;
+        t += 1;
+    }
+    r
 }

@@ -1,6 +1,6 @@
 -- Laws of what records may say: by class and by type.
 use mathlib.Core.Path.{_≡_, refl, sym, ap, ap₂, subst, _∙_}
-use mathlib.Core.Bool.{Bool, true, false, _&&_, _||_}
+use mathlib.Core.Bool.{Bool, true, false, _&&_}
 use mathlib.Core.List.{List}
 use mathlib.Core.Logic.{inl, inr}
 use Prim.Native.Nat.{ℕ, zero, suc, _+_, _<_}
@@ -15,7 +15,7 @@ use Rattle.reading.specs.Sets.{Located}
 use lib.Dec.{eqb, leb, ltb}
 use Rattle.layout.proofs.FieldLaws.{recorded-bounds, location-initial, class-event, class-is, next-first}
 use Rattle.layout.proofs.ChainLaws.{each-at}
-use Rattle.recording.specs.Causes.{readLegal, writeLegal, fenceLegal, legal, eventLegal, rfLegal, coLegal, rmwLegal, fromRead, dataLegal, addrLegal, ctrlLegal, casdepLegal, linkLegal, linkSound}
+use Rattle.recording.specs.Causes.{readLegal, writeLegal, fenceLegal, legal, eventLegal, rfLegal, coLegal, rmwLegal, fromRead, dataLegal, addrLegal, ctrlLegal, casdepLegal, linkLegal}
 
 module _ (k L class mode flag location value : ℕ) (b : Bool) where
   pub legal-read : class ≡ 1 → b ≡ readLegal mode flag && ltb location L → b ≡ legal k L class mode flag location value

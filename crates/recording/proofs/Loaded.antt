@@ -3,27 +3,27 @@ use mathlib.Core.Path.{_≡_, refl, sym, ap, subst, _∙_}
 use mathlib.Core.Bool.{Bool, true, false, not, _&&_, _||_, false≢true}
 use mathlib.Core.List.{List, [], _∷_}
 use mathlib.Core.Logic.{_⊎_, inl, inr}
-use Prim.Native.Nat.{ℕ, zero, suc, _+_, _-_, _<_, _≤_}
+use Prim.Native.Nat.{ℕ, zero, suc, _-_, _<_, _≤_}
 use native.Mathlib.Omega.{arith}
 use native.Mathlib.Decide.{ℕ-discrete}
 use borrow.Author.Tests.{eqb-true, eq-eqb, ne-eqb, leb-true, not-false}
-use lib.Dec.{T, eqb, leb, ltb}
+use lib.Dec.{T, eqb, leb}
 use lib.ListN.{length}
 use Rattle.relation.specs.Rel.{Set, Rel, some, inverse, diagonal, plus, nodes}
-use Rattle.relation.proofs.Meaning.{and-left, and-right, and-both, some-sound, some-complete, mem-below, below-mem}
+use Rattle.relation.proofs.Meaning.{and-left, and-right, and-both, some-sound, some-complete, mem-below}
 use Rattle.models.specs.Steps.{Plus, one, cons}
-use Rattle.models.specs.Recording.{Recording, event, ofClass, flagged, access, sameLocation, coStep}
+use Rattle.models.specs.Recording.{event, ofClass, flagged, access, coStep}
 use Rattle.models.specs.Graph.{graph, base, Within}
 use Rattle.models.specs.Loads.{Loads}
 use Rattle.models.proofs.Tests.{or-cases, below-listed, plus-one, plus-join, plus-steps}
-use Rattle.layout.specs.Layout.{kind, isSource, events, locations, threads, firstInitial, Sized}
-use Rattle.layout.specs.Chains.{among, chain, met, fresh, each, onceEach, nextEvent, head, threadsSound, linksInto, allOf}
+use Rattle.layout.specs.Layout.{kind, isSource, events, Sized}
+use Rattle.layout.specs.Chains.{among, fresh, onceEach, nextEvent, head, threadsSound, linksInto, allOf, thread, threadsUpTo}
 use Rattle.layout.specs.Decode.{isRecorded, isInitial, decode, fieldOr}
 use Rattle.reading.specs.Sets.{Located}
 use Rattle.reading.specs.Readable.{Readable}
 use Rattle.recording.specs.Causes.{legal as legalNumbers, eventLegal, rfLegal, coLegal, rmwLegal, fromRead, dataLegal, addrLegal, ctrlLegal, casdepLegal, linkLegal, oneSource, sameLocations, coRing, pairedAt, unpaired, linkSound, refusal}
 use Rattle.relation.proofs.Truth.{is-true, holds}
-use Rattle.layout.proofs.FieldLaws.{recorded-bounds, recorded-is, field-initial, event-small}
+use Rattle.layout.proofs.FieldLaws.{recorded-bounds, field-initial, event-small}
 use Rattle.layout.proofs.ChainLaws.{each-at}
 use Rattle.recording.proofs.LegalLaws.{accesses-located}
 use Rattle.recording.proofs.CauseLaws.{source-event, chained, readable-of, legal-of}
@@ -94,18 +94,18 @@ same-depth limit next a b (step {x = x} {l = l} p q w) m n {j} {k} u v e =
 
 -- Threads: every record is on a chain that ends.
 module _ (f : List ℕ) (a : Accepted f) where
-  sound : fresh (events f) [] (met (events f) (nextEvent f) (head f) 4) ≡ true
+  sound : fresh (events f) [] (threadsUpTo f 4) ≡ true
   unfolding onceEach
   sound = and-left _ _ (threads-sound f a)
 
-  on-chain : (e : ℕ) → isRecorded f e ≡ true → (j : ℕ) × (j < 4) × (among e (chain (events f) (nextEvent f) (head f j)) ≡ true)
+  on-chain : (e : ℕ) → isRecorded f e ≡ true → (j : ℕ) × (j < 4) × (among e (thread f j) ≡ true)
   unfolding onceEach
   on-chain e p =
       let (h, g) = recorded-bounds f e p in
       met-cases (events f) (nextEvent f) (head f) 4 e
-      (each-at (events f) (λ x. among x (met (events f) (nextEvent f) (head f) 4)) (and-right (fresh (events f) [] _) _ (threads-sound f a)) e h g)
+      (each-at (events f) (λ x. among x (threadsUpTo f 4)) (and-right (fresh (events f) [] _) _ (threads-sound f a)) e h g)
 
-  chain-of : (j : ℕ) → j < 4 → Ended (events f) (nextEvent f) (head f j) (chain (events f) (nextEvent f) (head f j))
+  chain-of : (j : ℕ) → j < 4 → Ended (events f) (nextEvent f) (head f j) (thread f j)
   chain-of j h = chain-ended (events f) (nextEvent f) (head f) 4 j h sound
 
   -- the chain from a record on
@@ -160,7 +160,7 @@ module _ (f : List ℕ) (a : Accepted f) where
       let (l, v) = own-chain y (next-from y z q) in
       let (m, u) = own-chain z (next-to x z p) in
       same-depth (events f) (nextEvent f) x y (chain-of j hj)
-      (subst (λ (c : ℕ). among x (chain (events f) (nextEvent f) (head f c)) ≡ true) same mi) mj w v
+      (subst (λ (c : ℕ). among x (thread f c) ≡ true) same mi) mj w v
       (longer x z p w u ∙ sym (longer y z q v u))
 
   -- Links: what the condition of each type says.

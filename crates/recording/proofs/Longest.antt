@@ -1,21 +1,21 @@
 -- A file longer than the longest that loads gets what its first bytes fix, so a reader of a stream may stop early.
-use mathlib.Core.Path.{_≡_, refl, sym, ap, ap₂, _∙_}
+use mathlib.Core.Path.{_≡_, refl, sym, ap, _∙_}
 use mathlib.Core.Bool.{Bool, true, false, not, _||_, false≢true}
 use mathlib.Core.List.{List, [], _∷_}
 use mathlib.Core.Logic.{_⊎_, inl, inr}
-use Prim.Native.Nat.{ℕ, suc, _+_, _*_, _<_, _≤_}
+use Prim.Native.Nat.{ℕ, suc, _+_, _<_, _≤_}
 use native.Mathlib.Omega.{arith}
 use native.Mathlib.Decide.{decLt}
 use native.Mathlib.Nat.{min-le-left}
 use borrow.Author.Tests.{le-ltb, ltb-false, ne-eqb}
-use lib.Dec.{eqb, ltb}
+use lib.Dec.{ltb}
 use lib.ListN.{length, take, length-take}
 use lib.Seq.{getD-take, length-take-le, take-all}
 use Rattle.models.specs.Rules.{first}
 use Rattle.layout.specs.Layout.{kind, events, locations, links, kindKnown, isSource, mostEvents, mostLinks, fullLength}
 use Rattle.recording.specs.Causes.{headerOver, tooShort, kindUnknown, overLimit, wrongLength, headerCauses, bodyCauses, refusal}
 use Rattle.recording.specs.Input.{longest, ReadOf}
-use Rattle.recording.proofs.CauseLaws.{first-here, first-skip}
+use Rattle.recording.proofs.CauseLaws.{first-skip}
 
 -- The number that a file longer than that gets: it passes cause 1 and is stopped by 2, 3 or 4.
 unfoldable pub overlong : ℕ → ℕ → ℕ → ℕ → ℕ

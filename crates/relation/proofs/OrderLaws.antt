@@ -2,20 +2,18 @@
 use mathlib.Core.Path.{_≡_, refl, sym, ap, subst, _∙_}
 use mathlib.Core.List.{List, [], _∷_, _++_, append-assoc, append-nil}
 use mathlib.Core.Bool.{Bool, true, false, not, _&&_, false≢true}
-use mathlib.Core.Logic.{_⊎_, inl, inr}
 use Prim.Native.Nat.{ℕ, zero, suc, _+_, _-_, _<_, _≤_}
 use native.Mathlib.Numerals.{add-one}
 use native.Mathlib.Omega.{arith}
 use native.Mathlib.Decide.{ℕ-discrete, decLt}
 use borrow.Author.Tests.{lt-ltb, le-ltb, eq-eqb, ne-eqb}
-use lib.Dec.{ltb, eqb}
 use lib.ListN.{length, take, set, length-set}
-use lib.Seq.{take-suc-set, take-set-le}
+use lib.Seq.{take-suc-set}
 use Rattle.relation.specs.Rel.{Set, Rel, single, intersection, difference, inverse, image, least, count, plus, nodes}
 use Rattle.relation.specs.Order.{ready, order, occurrences, EachOnce}
-use Rattle.relation.proofs.SetLaws.{and-false, and-true, Least, least-is, least-at, least-none, least-lt}
+use Rattle.relation.proofs.SetLaws.{and-false, and-true, Least, least-is, least-lt}
 use Rattle.relation.proofs.GridLaws.{inverse-back}
-use Rattle.relation.proofs.Meaning.{Mem, here, there, Steps, one, more, steps-join, and-left, and-right, and-both, mem-below, below-mem, image-sound, image-complete, plus-complete}
+use Rattle.relation.proofs.Meaning.{Steps, one, steps-join, and-left, and-right, and-both, mem-below, below-mem, image-sound, image-complete, plus-complete}
 use Rattle.relation.proofs.Pigeonhole.{Twice, pigeonhole}
 use Rattle.relation.proofs.Walks.{Inside}
 

@@ -1,15 +1,13 @@
 -- Laws of sets of events: membership in a list, the least member, counting, and sets filled number by number.
 use mathlib.Core.Path.{_≡_, refl, sym, ap, ap₂, subst, _∙_, fun-ext}
-use mathlib.Core.List.{List, [], _∷_}
-use mathlib.Core.Bool.{Bool, true, false, not, _&&_, _||_, false≢true}
+use mathlib.Core.Bool.{Bool, true, false, _&&_, _||_, false≢true}
 use Prim.Native.Nat.{ℕ, zero, suc, _+_, _-_, _<_, _≤_}
 use native.Mathlib.Numerals.{add-one}
 use native.Mathlib.Omega.{arith}
 use native.Mathlib.Decide.{ℕ-discrete, decLt}
 use borrow.Author.Tests.{eq-eqb, ne-eqb, lt-ltb, le-ltb}
 use lib.Dec.{eqb, ltb}
-use Rattle.relation.specs.Rel.{Set, Rel, Next, empty, single, given, union, some, image, least, count, below}
-use Rattle.relation.specs.Ring.{under}
+use Rattle.relation.specs.Rel.{Set, Next, empty, single, given, union, least, count}
 
 pub or-comm : (a b : Bool) → a || b ≡ b || a
 or-comm true true = refl

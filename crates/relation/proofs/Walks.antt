@@ -1,19 +1,19 @@
 -- Walks of a given number of steps, and `power`, which computes them. Among 64 events every walk can be made shorter than 64 steps.
 use mathlib.Core.Path.{_≡_, refl, sym, ap, subst, _∙_}
-use mathlib.Core.List.{List, [], _∷_}
-use mathlib.Core.Bool.{Bool, true, false, _&&_, false≢true}
+use mathlib.Core.List.{List, []}
+use mathlib.Core.Bool.{true, false, false≢true}
 use Prim.Native.Nat.{ℕ, zero, suc, _+_, _-_, _<_, _≤_}
 use native.Mathlib.Omega.{arith}
 use native.Mathlib.Decide.{decLt}
-use borrow.Author.Tests.{eqb-true, lt-ltb, eq-eqb, ltb-true}
+use borrow.Author.Tests.{eqb-true, lt-ltb, eq-eqb}
 use lib.Dec.{eqb, ltb}
 use lib.ListN.{length, getD}
-use Rattle.relation.specs.Rel.{Set, Rel, empty, identity, compose, plus, nodes}
-use Rattle.relation.specs.Bits.{bit, edge}
+use Rattle.relation.specs.Rel.{Set, Rel, empty, identity, nodes}
+use Rattle.relation.specs.Bits.{edge}
 use Rattle.relation.specs.Ring.{under, power}
 use Rattle.relation.proofs.ByteLaws.{bit-out}
 use Rattle.relation.proofs.GridLaws.{edge-out}
-use Rattle.relation.proofs.Meaning.{Steps, one, more, and-left, and-right, and-both, mem-below, compose-sound, compose-complete}
+use Rattle.relation.proofs.Meaning.{Steps, one, more, and-right, and-both, mem-below, compose-sound, compose-complete}
 use Rattle.relation.proofs.Pigeonhole.{Twice, pigeonhole}
 
 -- A relation between numbers below 64.

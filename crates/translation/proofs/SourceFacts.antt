@@ -11,7 +11,7 @@ use Rattle.models.specs.Recording as recording
 use Rattle.models.specs.Recording.{event}
 use Rattle.models.specs.Loads.{Loads}
 use Rattle.layout.specs.Layout.{kind, events, locations, links, threads, linkByte, Sized}
-use Rattle.layout.specs.Chains.{nextEvent, head, linksInto, met, fresh, allMet, onceEach, among}
+use Rattle.layout.specs.Chains.{nextEvent, head, linksInto, fresh, allMet, onceEach, among, threadsUpTo}
 use Rattle.layout.specs.Decode.{isRecorded, decode}
 use Rattle.recording.specs.Causes.{linkLegal}
 use Rattle.layout.proofs.FieldLaws.{recorded-bounds, event-small}
@@ -55,16 +55,16 @@ module _ (f : List ℕ) (s : Source f) where
   link-target t a b e = recorded-bounds f b (and-left (isRecorded f b) (some (linksInto f b) (λ m. eqb (linkByte f m 1) t && eqb (linkByte f m 2) a)) e)
 
   -- Chains.
-  threads-fresh : fresh (events f) [] (met (events f) (nextEvent f) (head f) threads) ≡ true
+  threads-fresh : fresh (events f) [] (threadsUpTo f threads) ≡ true
   unfolding onceEach
   threads-fresh =
-      let l = met (events f) (nextEvent f) (head f) threads in
+      let l = threadsUpTo f threads in
       and-left (fresh (events f) [] l) (allMet (events f) l) (threads-sound f accepted-source)
 
   pub next-within : (e : ℕ) → 1 ≤ e → e ≤ events f → nextEvent f e ≤ events f
   unfolding onceEach
   next-within e h g =
-      let l = met (events f) (nextEvent f) (head f) threads in
+      let l = threadsUpTo f threads in
       let m = each-at (events f) (λ x. among x l) (and-right (fresh (events f) [] l) (allMet (events f) l) (threads-sound f accepted-source)) e h g in
       let w = met-cases (events f) (nextEvent f) (head f) threads e m in
       ended-next (events f) (nextEvent f) e (chain-ended (events f) (nextEvent f) (head f) threads (w .0) (w .1) threads-fresh) (w .2)

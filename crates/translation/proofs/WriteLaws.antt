@@ -2,14 +2,14 @@
 use mathlib.Core.Path.{_≡_, refl, sym, ap, ap₂, subst, _∙_}
 use mathlib.Core.Bool.{true, false}
 use mathlib.Core.List.{List, [], _∷_, _++_}
-use Prim.Native.Nat.{ℕ, zero, suc, _+_, _-_, _*_, _/_, _%_, _<_, _≤_}
+use Prim.Native.Nat.{ℕ, suc, _+_, _-_, _*_, _/_, _%_, _<_, _≤_}
 use native.Mathlib.Numerals.{add-one}
 use native.Mathlib.Nat.{add-assoc}
 use native.Mathlib.Omega.{arith}
 use borrow.Author.Tests.{le-leb}
 use lib.Dec.{leb}
 use lib.ListN.{length, getD}
-use Rattle.relation.specs.Rel.{Set, Rel, inverse, least, count, Next}
+use Rattle.relation.specs.Rel.{Set, inverse, least, count, Next}
 use Rattle.relation.proofs.SetLaws.{Least, least-is, skip-to}
 use Rattle.layout.specs.Layout.{eventByte}
 use Rattle.layout.specs.Chains.{startOf}
@@ -17,7 +17,7 @@ use Rattle.translation.specs.Contents.{Contents, contents}
 use Rattle.translation.specs.Translate.{newEvents, after, keptOr, newMode, newFlag, newLink, translated}
 use Rattle.translation.specs.Encode.{chained, records, isLink, linksBefore, linksUpTo, header, eventRecord, linkRecord, eventRecords, linkRecords}
 use Rattle.translation.specs.TranslationAnswer.{chip}
-use Rattle.translation.specs.Parts.{Source, NewEvent, Ready, placed, rowRecord, linkStretch}
+use Rattle.translation.specs.Parts.{Source, placed, rowRecord, linkStretch}
 use Rattle.relation.proofs.Counting.{count-le, count-mono, count-yes, count-no, count-lt, count-add, count-same}
 use Rattle.translation.proofs.RecordLaws.{records-yes, records-no, records-length, records-add, records-same}
 use Rattle.translation.proofs.EncodeLaws.{link-size, events-length, links-length}

@@ -1,5 +1,5 @@
 -- `sets` meets its contract, place by place.
-use mathlib.Core.Path.{_≡_, refl, ap₂, _∙_}
+use mathlib.Core.Path.{refl, ap₂, _∙_}
 use Rattle.relation.specs.Rel.{union}
 use Rattle.models.specs.Recording.{event, acquireFence, releaseFence, R, W, F, Racq, Rex, Wrel, Wstrong, Facq, Frel, Fsc, Fld, Fsy}
 use Rattle.layout.specs.Decode.{decode}

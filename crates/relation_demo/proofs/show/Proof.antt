@@ -1,7 +1,5 @@
 -- `show` is safe: it prints only what lies in the array.
-use mathlib.Core.Path.{_≡_}
 use Prim.Native.Nat.{_≤_, _-_}
-use lib.ListN.{length}
 use borrow.Author.Needs.{needs}
 use Rattle.relation_demo.proofs.show.Statement.{statement}
 use Rattle.relation_demo.proofs.show.Tie as tie

@@ -1,5 +1,5 @@
 -- `chain::once_each` meets its contract, chain by chain.
-use Prim.Native.Nat.{ℕ, _-_, _≤_}
+use Prim.Native.Nat.{_-_, _≤_}
 use native.Mathlib.Omega.{arith}
 use borrow.Author.Tests.{not-true, not-false}
 use Rattle.layout.specs.Chains.{nextOf, startOf, Linked}

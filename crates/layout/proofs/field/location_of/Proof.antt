@@ -1,6 +1,4 @@
 -- `field::location_of` meets its contract.
-use mathlib.Core.Path.{_∙_}
-use Rattle.layout.specs.Decode.{decode}
 use Rattle.layout.proofs.FieldLaws.{location-initial, location-recorded}
 use borrow.Author.Needs.{needs}
 use Rattle.layout.proofs.field.location_of.Statement.{statement}

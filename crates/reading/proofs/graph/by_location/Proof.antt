@@ -1,7 +1,7 @@
 -- `graph::by_location` meets its contract, event by event.
 use mathlib.Core.Path.{_≡_}
 use mathlib.Core.Logic.{inl, inr}
-use Prim.Native.Nat.{ℕ, _+_, _-_, _≤_}
+use Prim.Native.Nat.{_+_, _-_, _≤_}
 use native.Mathlib.Omega.{arith}
 use Rattle.layout.specs.Layout.{Sized, events}
 use Rattle.reading.proofs.GraphLaws.{Locating, locating-none, locating-with, locating-keep, locating-on, locating-all}

@@ -1,6 +1,5 @@
 -- `graph::link_rows` meets its contract, row by row.
-use mathlib.Core.Path.{_≡_}
-use Prim.Native.Nat.{ℕ, _-_, _≤_}
+use Prim.Native.Nat.{_-_, _≤_}
 use Rattle.relation.specs.Rel.{none, inverse}
 use Rattle.relation.proofs.GridLaws.{Rows, rows-none-of, rows-set, rows-all}
 use Rattle.layout.specs.Decode.{decode}

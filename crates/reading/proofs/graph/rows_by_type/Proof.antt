@@ -1,6 +1,5 @@
 -- `graph::rows_by_type` meets its contract, row by row.
-use mathlib.Core.Path.{_≡_}
-use Prim.Native.Nat.{ℕ, _-_, _≤_}
+use Prim.Native.Nat.{_-_, _≤_}
 use native.Mathlib.Omega.{arith}
 use Rattle.relation.specs.Rel.{inverse, none}
 use Rattle.relation.proofs.GridLaws.{Rows, rows-none-of, rows-set, rows-all}

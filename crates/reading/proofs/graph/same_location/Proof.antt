@@ -1,7 +1,7 @@
 -- `graph::same_location` meets its contract, event by event.
 use mathlib.Core.Path.{_≡_}
 use mathlib.Core.Logic.{inl, inr}
-use Prim.Native.Nat.{ℕ, _+_, _-_, _≤_}
+use Prim.Native.Nat.{_+_, _-_, _≤_}
 use native.Mathlib.Omega.{arith}
 use Rattle.relation.specs.Rel.{none}
 use Rattle.relation.proofs.GridLaws.{Rows, rows-none-of, rows-set, rows-keep, rows-all}

@@ -1,25 +1,36 @@
 -- `thread::line` meets its contract, thread by thread.
-use native.Mathlib.Omega.{arith}
-use Rattle.reading.proofs.ThreadLaws.{line-none}
+use mathlib.Core.Path.{_≡_}
+use mathlib.Core.Bool.{true}
+use Prim.Native.Nat.{_-_, _≤_}
+use Rattle.layout.specs.Layout.{Sized}
+use Rattle.layout.specs.Chains.{threadsSound}
+use Rattle.reading.specs.Sets.{Line}
+use Rattle.reading.proofs.ThreadLaws.{line-none, line-all}
 use borrow.Author.Needs.{needs}
 use Rattle.reading.proofs.thread.line.Statement.{statement}
 use Rattle.reading.proofs.thread.line.Tie as tie
 
-along-requires : tie.Need-along-requires
-along-requires c κs = (c .before .pre .0, c .before .pre .1, omega arith, line-none _ _)
+abbrev Inv-loop : tie.InvT-loop
+Inv-loop file r₀ t₀ r t = (t ≤ 4) × Sized file × (threadsSound file ≡ true) × Line file t (r .len) (r .at)
 
-along-requires-2 : tie.Need-along-requires-2
-along-requires-2 c κs = search needs
+abbrev μ-loop : tie.MeasureT-loop
+μ-loop file r₀ t₀ r t = 4 - t
 
-along-requires-3 : tie.Need-along-requires-3
-along-requires-3 c κs = search needs
+loop-holds : tie.Need-loop-holds Inv-loop μ-loop
+loop-holds c = (search needs, c .before .pre .0, c .before .pre .1, line-none _ _)
 
-along-requires-4 : tie.Need-along-requires-4
-along-requires-4 c κs = search needs
+along-requires : tie.Need-along-requires Inv-loop μ-loop
+along-requires c κs = (let inv = c .before .loop .inv in (inv .1, inv .2, c .loop-test .taken, inv .3))
 
-returns : tie.Need-returns
-returns c = search needs
+loop-again : tie.Need-loop-again Inv-loop μ-loop
+loop-again c = (let turn = c .before in let inv = turn .before .loop .inv in (search needs, inv .1, inv .2, c .along .ensures))
+
+returns : tie.Need-returns Inv-loop μ-loop
+returns c =
+    let inv = c .before .loop .inv in
+    line-all _ _ _ _ (inv .3) (inv .0) (c .loop-test .left)
 
 pub line-spec : {M : Type 1} → statement M
 line-spec =
-    tie.close (tie.spec along-requires along-requires-2 along-requires-3 along-requires-4 returns)
+    tie.close
+    (tie.spec Inv-loop μ-loop loop-holds along-requires (λ c. search needs) (λ c. search needs) loop-again returns)

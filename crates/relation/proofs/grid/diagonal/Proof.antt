@@ -1,7 +1,7 @@
 -- `grid::diagonal` meets its contract, event by event.
 use mathlib.Core.Path.{_≡_, sym, ap, _∙_}
 use mathlib.Core.Logic.{inl, inr}
-use Prim.Native.Nat.{ℕ, _-_, _≤_}
+use Prim.Native.Nat.{_-_, _≤_}
 use lib.ListN.{length}
 use Rattle.relation.specs.Rel.{Set, diagonal, empty}
 use Rattle.relation.specs.Bits.{bit, edge}

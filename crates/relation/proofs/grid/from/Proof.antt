@@ -1,7 +1,7 @@
 -- `grid::from` meets its contract, row by row.
 use mathlib.Core.Path.{_≡_, sym, _∙_}
 use mathlib.Core.Logic.{inl, inr}
-use Prim.Native.Nat.{ℕ, _-_, _≤_}
+use Prim.Native.Nat.{_-_, _≤_}
 use lib.ListN.{length}
 use Rattle.relation.specs.Rel.{none, from}
 use Rattle.relation.specs.Bits.{bit, edge}

@@ -1,8 +1,8 @@
 -- `grid::identity` meets its contract, row by row.
-use mathlib.Core.Path.{_≡_, sym, ap, _∙_}
+use mathlib.Core.Path.{sym, _∙_}
 use mathlib.Core.Logic.{inl, inr}
-use Prim.Native.Nat.{ℕ, _-_, _≤_}
-use Rattle.relation.specs.Rel.{Set, none, identity}
+use Prim.Native.Nat.{_-_, _≤_}
+use Rattle.relation.specs.Rel.{none, identity}
 use Rattle.relation.specs.Bits.{bit}
 use Rattle.relation.proofs.ByteLaws.{bit-out}
 use Rattle.relation.proofs.GridLaws.{Rows, rows-none-of, rows-set, rows-keep, rows-all, identity-out, identity-yes, identity-no}

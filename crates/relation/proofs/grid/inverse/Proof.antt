@@ -1,9 +1,9 @@
 -- `grid::inverse` meets its contract, pair by pair.
-use mathlib.Core.Path.{_≡_, refl, sym, ap, _∙_}
-use Prim.Native.Nat.{ℕ, _-_, _*_, _≤_}
+use mathlib.Core.Path.{_≡_, refl, _∙_}
+use Prim.Native.Nat.{_-_, _*_, _≤_}
 use native.Mathlib.Omega.{arith}
 use lib.ListN.{length}
-use Rattle.relation.specs.Bits.{bit, edge}
+use Rattle.relation.specs.Bits.{edge}
 use Rattle.relation.proofs.GridLaws.{turnedBelow, turned-none, turned-all, Turning, turning-first, turning-next, turning-all}
 use borrow.Author.Needs.{needs}
 use Rattle.relation.proofs.grid.inverse.Statement.{statement}

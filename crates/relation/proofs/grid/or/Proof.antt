@@ -1,6 +1,6 @@
 -- `grid::or` meets its contract, row by row.
 use mathlib.Core.Path.{_≡_}
-use Prim.Native.Nat.{ℕ, _-_, _≤_}
+use Prim.Native.Nat.{_-_, _≤_}
 use lib.ListN.{length}
 use Rattle.relation.specs.Rel.{either}
 use Rattle.relation.specs.Bits.{edge}

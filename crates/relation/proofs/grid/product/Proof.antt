@@ -1,7 +1,7 @@
 -- `grid::product` meets its contract, row by row.
-use mathlib.Core.Path.{_≡_, sym, _∙_}
+use mathlib.Core.Path.{sym, _∙_}
 use mathlib.Core.Logic.{inl, inr}
-use Prim.Native.Nat.{ℕ, _-_, _≤_}
+use Prim.Native.Nat.{_-_, _≤_}
 use Rattle.relation.specs.Rel.{none, product}
 use Rattle.relation.specs.Bits.{bit}
 use Rattle.relation.proofs.ByteLaws.{bit-out}

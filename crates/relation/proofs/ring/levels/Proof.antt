@@ -1,6 +1,6 @@
 -- `ring::levels` meets its contract: each row is what one more step reaches.
 use mathlib.Core.Path.{_≡_}
-use Prim.Native.Nat.{ℕ, _-_, _≤_}
+use Prim.Native.Nat.{_-_, _≤_}
 use Rattle.relation.specs.Rel.{none}
 use Rattle.relation.specs.Bits.{bit, edge}
 use Rattle.relation.specs.Ring.{power}

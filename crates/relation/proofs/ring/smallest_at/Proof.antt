@@ -1,6 +1,6 @@
 -- `ring::smallest_at` meets its contract.
 use mathlib.Core.Logic.{inl, inr}
-use Prim.Native.Nat.{ℕ, _-_, _≤_}
+use Prim.Native.Nat.{_-_, _≤_}
 use native.Mathlib.Omega.{arith}
 use Rattle.relation.specs.Ring.{SmallestAt}
 use Rattle.relation.proofs.RingLaws.{smallest-one, smallest-new, smallest-old, smallest-done}

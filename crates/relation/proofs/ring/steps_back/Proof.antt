@@ -1,6 +1,5 @@
 -- `ring::steps_back` meets its contract: each event but the last leads to the one after it.
-use mathlib.Core.List.{List}
-use Prim.Native.Nat.{ℕ, _≤_, _<_, _-_}
+use Prim.Native.Nat.{_<_, _-_}
 use native.Mathlib.Omega.{arith}
 use lib.ListN.{replicate}
 use Rattle.relation.specs.Rel.{inverse}

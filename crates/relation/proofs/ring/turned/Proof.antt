@@ -1,5 +1,5 @@
 -- `ring::turned` meets its contract, place by place.
-use Prim.Native.Nat.{ℕ, _-_, _≤_}
+use Prim.Native.Nat.{_-_, _≤_}
 use native.Mathlib.Omega.{arith}
 use Rattle.relation.specs.Ring.{SmallestAt}
 use Rattle.relation.proofs.RingLaws.{Turning, turning-none, turning-more, turning-all, turned-inside}

@@ -1,6 +1,5 @@
 -- `row::has` meets its contract: bit j of the row's number.
 use mathlib.Core.Path.{ap, sym, _∙_}
-use Prim.Native.Nat.{ℕ}
 use Rattle.relation.specs.Rel.{Set}
 use Rattle.relation.proofs.WordLaws.{on-has}
 use borrow.Author.Needs.{needs}

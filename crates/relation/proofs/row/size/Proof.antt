@@ -1,6 +1,5 @@
 -- `row::size` meets its contract: the set bits of the row's number.
 use mathlib.Core.Path.{ap, sym, _∙_}
-use Prim.Native.Nat.{_<_, _^_}
 use native.Mathlib.Omega.{arith}
 use mir.Syntax.{w64}
 use mir.Val.{Fits}
