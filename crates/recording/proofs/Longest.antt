@@ -6,7 +6,7 @@ use mathlib.Core.Logic.{_⊎_, inl, inr}
 use Prim.Native.Nat.{ℕ, suc, _+_, _<_, _≤_}
 use native.Mathlib.Omega.{arith}
 use native.Mathlib.Decide.{decLt}
-use native.Mathlib.Nat.{min-le-left}
+use native.Mathlib.Nat.{min-le-right}
 use borrow.Author.Tests.{le-ltb, ltb-false, ne-eqb}
 use lib.Dec.{ltb}
 use lib.ListN.{length, take, length-take}
@@ -89,6 +89,10 @@ read-of f =
     refused false true = (2, refl)
     refused false false = (3, refl)
 
+-- What was read into an array of one byte more than the longest file.
+pub read-longest : (input start : List ℕ) (n : ℕ) → length start ≡ longest + 1 → ReadOf input start n → take n start ≡ take (longest + 1) input
+read-longest input start n long read = read ∙ ap (λ (k : ℕ). take k input) long
+
 -- What was read is itself an input that would be read so.
-pub read-itself : (start : List ℕ) (n : ℕ) → n ≤ longest + 1 → ReadOf (take n start) start n
-read-itself start n h = sym (take-all (longest + 1) (take n start) (omega (arith, length-take n start, min-le-left n (length start))))
+pub read-itself : (start : List ℕ) (n : ℕ) → ReadOf (take n start) start n
+read-itself start n = sym (take-all (length start) (take n start) (omega (arith, length-take n start, min-le-right n (length start))))

@@ -180,6 +180,6 @@ written-fits f r room n p q =
     fits : n ≡ length (translation f) → ltb room (length (translation f)) ≡ false → n ≤ room
     fits size e = omega (arith, size, ltb-false room (length (translation f)) e)
 
-pub input-fits : (start : List ℕ) (n : ℕ) → n ≤ longest + 1 → (r : Translation) (room m : ℕ)
+pub input-fits : (start : List ℕ) (n : ℕ) (r : Translation) (room m : ℕ)
     → ((input : List ℕ) → ReadOf input start n → r ≡ translationOf input room) → r ≡ Written m → m ≤ room
-input-fits start n h r room m answers q = written-fits (take n start) r room m (answers (take n start) (read-itself start n h)) q
+input-fits start n r room m answers q = written-fits (take n start) r room m (answers (take n start) (read-itself start n)) q

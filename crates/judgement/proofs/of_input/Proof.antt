@@ -3,6 +3,7 @@ use mathlib.Core.Path.{_≡_, sym}
 use native.Mathlib.Omega.{arith}
 use lib.ListN.{length}
 use lib.Seq.{length-take-le}
+use Rattle.recording.proofs.Longest.{read-longest}
 use Rattle.judgement.proofs.PrintLaws.{prints-input}
 use borrow.Author.Needs.{needs}
 use Rattle.judgement.proofs.of_input.Statement.{statement}
@@ -15,10 +16,10 @@ slice-aggregate-printed c =
     sym (length-take-le _ _ (omega (arith, long, t .pre)))
 
 returns : tie.Need-returns
-returns c = (
-  λ input read. prints-input _ _ _ read (c .printed .ensures .0),
-  c .printed .ensures .1,
-)
+returns c =
+    let t = c .before .before in
+    let long : length (t .args .t1) ≡ 1413 = search needs in
+    (λ input read. prints-input _ _ _ (read-longest input (t .args .t1) (t .args .n) long read) (c .printed .ensures .0), c .printed .ensures .1)
 
 pub of-input-spec : {M : Type 1} → statement M
 of-input-spec =

@@ -12,7 +12,8 @@ use Rattle.translate.proofs.main.Tie as tie
 fits : (c : tie.After-known-told2) → c .before .m .given .0 .0 ≤ 1320
 fits c =
     let t = c .before .before .before .before in
-    input-fits _ _ (t .before .before .read .ensures) _ _ _ (t .of-input .ensures .0) (c .before .m .given .1)
+    let read = t .before .before in
+    input-fits (read .read .last .0) (read .read .result) _ _ _ (t .of-input .ensures .0) (c .before .m .given .1)
 
 array-share-prefix-bytes : tie.Need-array-share-prefix-bytes
 array-share-prefix-bytes c =
