@@ -1,0 +1,2 @@
+-- The definitions that the contracts of `output` cite.
+pub mod Output
