@@ -1,14 +1,13 @@
 -- Laws of the lines that are printed: demand 3 of the two verdicts, and the lines by what loading answers.
-use mathlib.Core.Path.{_≡_, refl, sym, ap, ap₂, subst, _∙_}
+use mathlib.Core.Path.{_≡_, sym, ap, ap₂, subst, _∙_}
 use mathlib.Core.List.{List, _++_}
 use mathlib.Core.Logic.{inl, inr}
-use Prim.Native.Nat.{ℕ, zero, suc, _+_, _≤_}
+use Prim.Native.Nat.{ℕ, suc, _+_}
 use native.Mathlib.Omega.{arith}
 use borrow.Author.Tests.{eqb-true}
 use lib.Dec.{eqb}
 use lib.ListN.{take}
 use Rattle.relation.proofs.Meaning.{or-either}
-use Rattle.models.specs.Rules.{IMM, ARMv8}
 use Rattle.layout.specs.Layout.{kind, kindKnown}
 use Rattle.recording.specs.Causes.{refusal}
 use Rattle.recording.specs.Load.{headerOf, answer, loadOf, numberOf, causeFor}
@@ -22,30 +21,12 @@ use Rattle.recording.proofs.Longest.{read-of}
 use Rattle.verdict.specs.declared.Verdict.{Verdict}
 use Rattle.verdict.specs.Answer.{refuses, answers}
 use Rattle.verdict.proofs.ShownMeaning.{answers-zero}
-use Rattle.execution.specs.OnFile.{OnFile}
-use Rattle.imm.specs.Judged as imm
-use Rattle.armv8.specs.Judged as armv8
 use Rattle.translation.specs.TranslationAnswer.{translation}
 use Rattle.lines.specs.Lines.{source, chip, lineOf}
 use Rattle.soundness.specs.Soundness.{immVerdict, armv8Verdict}
 use Rattle.soundness.proofs.Proved.{soundness}
 use Rattle.judgement.specs.Judgement.{OnSource, OnChip, lineFor, Prints}
 use Rattle.judgement.proofs.ChipLaws.{loads-source}
-
--- A verdict on a file shows at most 64 events.
-module _ (k : ℕ) (f : List ℕ) (v : Verdict) where
-  bounded : (refused : (n : ℕ) → causeFor k f ≡ suc n → v .len ≡ 0) (judged : causeFor k f ≡ 0 → v .len ≤ 64) → v .len ≤ 64
-  bounded refused judged = go (causeFor k f) refl
-    where
-      go : (n : ℕ) → causeFor k f ≡ n → v .len ≤ 64
-      go zero e = judged e
-      go (suc n) e = omega (arith, refused n e)
-
-  pub imm-bounded : OnFile k IMM imm.Judged f v → v .len ≤ 64
-  imm-bounded on = bounded (λ n e. on .refused n e .1) (λ e. on .judged e .shown .bound)
-
-  pub armv8-bounded : OnFile k ARMv8 armv8.Judged f v → v .len ≤ 64
-  armv8-bounded on = bounded (λ n e. on .refused n e .1) (λ e. on .judged e .shown .bound)
 
 -- Demand 3, for the verdicts on a source file that loads and on its translation.
 pub both-sound : (f : List ℕ) (v w : Verdict) → causeFor 1 f ≡ 0 → OnSource f v → OnChip (translation f) w → w .answer ≡ answers 0 → v .answer ≡ answers 0

@@ -1,10 +1,10 @@
 // The judgement of a file as a whole: the verdict on its translation, and the lines that the judge prints.
 
 use lines::Text;
+use output::Filled;
 use recording::INPUT;
 use recording::Load;
 use recording::causes;
-use translation::Translation;
 use verdict::Verdict;
 ghost use mathlib.Core.Path.{_≡_};
 ghost use mathlib.Core.List.{List, _++_};
@@ -35,8 +35,8 @@ pub fn chip(file: &[u8]) -> Verdict
 {
     let mut bytes = [0u8; 1320];
     match translation::written(file, &mut bytes) {
-        Translation::Refused(k) => verdict::refused(k),
-        Translation::Written(n) => armv8::file::loaded(&bytes[..n]),
+        Filled::Refused(k) => verdict::refused(k),
+        Filled::Written(n) => armv8::file::loaded(&bytes[..n]),
     }
 }
 

@@ -1,68 +1,38 @@
--- Laws of the calls' answers: bytes that are stored in an output or not, the answer of a verdict, and the judge's lines.
-use mathlib.Core.Path.{_≡_, refl, sym, ap, subst, _∙_}
+-- Laws of the calls' answers: bytes that go to an output, the answer of a verdict, and the judge's lines.
+use mathlib.Core.Path.{_≡_, refl, sym, ap, _∙_}
 use mathlib.Core.List.{List, _++_}
 use Prim.Native.Nat.{ℕ, zero, suc, _+_, _<_, _≤_}
-use native.Mathlib.Nat.{zero-add}
 use native.Mathlib.Omega.{arith}
-use lib.ListN.{length, drop, length-append}
+use lib.ListN.{length, length-append}
 use lib.Seq.{length-take-le}
+use Rattle.models.specs.Graph.{Base}
+use Rattle.models.specs.Rules.{Model}
+use Rattle.recording.specs.Load.{causeFor}
 use Rattle.verdict.specs.declared.Verdict.{Verdict}
-use Rattle.verdict.specs.declared.Answer.the-variants.{Allowed, Broken}
-use Rattle.verdict.specs.Answer.{refuses, answers}
-use Rattle.verdict.specs.Shown.{events}
+use Rattle.execution.specs.OnFile.{OnFile}
 use Rattle.lines.specs.declared.Text.{Text}
 use Rattle.lines.specs.Put.{bytes}
-use Rattle.translation.specs.Parts.{placed}
-use Rattle.translation.proofs.OutputLaws.{length-placed, placed-placed}
+use Rattle.output.specs.Output.{placed, Fills}
+use Rattle.output.specs.declared.Filled.{Filled}
+use Rattle.output.specs.declared.Filled.the-variants.{Refused, Written}
+use Rattle.output.proofs.OutputLaws.{length-placed, placed-placed}
+use Rattle.output.proofs.FillLaws.{fills-short, fills-written}
 use Rattle.judgement.specs.Judgement.{Prints}
-use Rattle.probe.specs.Calls.{coded, Stored, Reported, Printed}
+use Rattle.probe.specs.Calls.{coded, codedAnswer, Stored, Printed}
 
-module _ (rule : ℕ) (text out : List ℕ) where
-  pub stored-short : length out < length text → (answer : ℕ) → answer ≡ coded 12 0 0 → Stored rule text out answer out
-  stored-short lt answer a = record { fits = λ g. absurd (omega arith); short = λ g. (a, refl) }
+-- What fills an output is stored there.
+pub stored : (k rule : ℕ) (text out : List ℕ) (filled : Filled) (r : ℕ) (left : List ℕ) → Fills k text out filled left → r ≡ codedAnswer rule filled
+    → Stored k rule text out r left
+stored k rule text out filled r left w a = record { answer = a ∙ ap (codedAnswer rule) (w .answer); output = w .output }
 
-  pub stored-fits : length text ≤ length out → (answer : ℕ) (left : List ℕ) → answer ≡ coded 0 rule (length text) → left ≡ placed out 0 text
-      → Stored rule text out answer left
-  unfolding placed
-  stored-fits h answer left a p = record { fits = λ g. (a, p ∙ ap (λ (k : ℕ). text ++ drop k out) (zero-add (length text))); short = λ g. absurd (omega arith) }
-
--- The number of a broken rule is that of its answer.
-broken-rule : (rule k : ℕ) → answers rule ≡ Broken k → rule ≡ k
-broken-rule zero k p = absurd (let z : _≡_ {A = ℕ} 0 1 = cc in omega arith)
-broken-rule (suc rule) k p = cc
-
-allowed-rule : (rule : ℕ) → answers rule ≡ Allowed → rule ≡ 0
-allowed-rule zero p = refl
-allowed-rule (suc rule) p = absurd (let z : _≡_ {A = ℕ} 0 1 = cc in omega arith)
-
-refuses-rule : (rule k : ℕ) → answers rule ≡ refuses k → ⊥
-refuses-rule zero k p = let z : _≡_ {A = ℕ} 0 1 = cc in omega arith
-refuses-rule (suc rule) k p = let z : _≡_ {A = ℕ} 0 1 = cc in omega arith
-
-module _ (v : Verdict) (out : List ℕ) where
-  pub reported-refused : (k answer : ℕ) → v .answer ≡ refuses k → answer ≡ coded k 0 0 → Reported v out answer out
-  reported-refused k answer p a =
-      record {
-        refused = λ n q. (let e : k ≡ n = cc in a ∙ ap (λ (m : ℕ). coded m 0 0) e, refl);
-        judged = λ rule q. absurd (refuses-rule rule k (sym q ∙ p));
-      }
-
-  module _ (answer : ℕ) (left : List ℕ) where
-    judged-as : (n : ℕ) → ((rule : ℕ) → v .answer ≡ answers rule → n ≡ rule) → ((k : ℕ) → v .answer ≡ refuses k → ⊥)
-        → Stored n (events v) out answer left → Reported v out answer left
-    judged-as n is d s =
-        record {
-          refused = λ k q. absurd (d k q);
-          judged = λ rule q. subst (λ (m : ℕ). Stored m (events v) out answer left) (is rule q) s;
-        }
-
-    pub reported-allowed : v .answer ≡ Allowed → Stored 0 (events v) out answer left → Reported v out answer left
-    reported-allowed p = judged-as 0 (λ rule q. sym (allowed-rule rule (sym q ∙ p))) (λ k q. refuses-rule 0 k (sym p ∙ q))
-
-    pub reported-broken : (n : ℕ) → v .answer ≡ Broken n → Stored n (events v) out answer left → Reported v out answer left
-    reported-broken n p =
-        judged-as n (λ rule q. sym (broken-rule rule n (sym q ∙ p)))
-        (λ k q. let z : _≡_ {A = ℕ} 0 1 = cc in omega arith)
+-- A verdict on a file shows at most 64 events.
+pub few-shown : (k : ℕ) (M : Model) (Judged : Base → Verdict → Type 0) (f : List ℕ) (v : Verdict) → ((B : Base) → Judged B v → v .len ≤ 64)
+    → OnFile k M Judged f v → v .len ≤ 64
+few-shown k M Judged f v bound on = go (causeFor k f) refl
+  where
+    go : (n : ℕ) → causeFor k f ≡ n → v .len ≤ 64
+    go zero e = bound _ (on .judged e .shown)
+    go (suc n) e = omega (arith, on .refused n e .1)
 
 -- An output that something was put into is as long as before.
 pub still-fits : (out left x : List ℕ) (n m : ℕ) → left ≡ placed out 0 x → length x ≡ n → n + m ≤ length out → n + m ≤ length left
@@ -73,18 +43,19 @@ module _ (f out : List ℕ) (t u : Text) (long : length (t .at) ≡ 320) (long�
   sizes : length (bytes t ++ bytes u) ≡ t .len + u .len
   sizes = omega (arith, length-append (bytes t) (bytes u), length-take-le (t .len) (t .at) (omega arith), length-take-le (u .len) (u .at) (omega arith))
 
-  pub printed-short : length out < t .len + u .len → (answer : ℕ) → answer ≡ coded 12 0 0 → Printed f out answer out
-  printed-short lt answer a =
-      record { text = bytes t ++ bytes u; prints = prints; stored = stored-short 0 _ out (omega (arith, sizes)) answer a }
+  printed : (filled : Filled) (r : ℕ) (left : List ℕ) → Fills 0 (bytes t ++ bytes u) out filled left → r ≡ codedAnswer 0 filled → Printed f out r left
+  printed filled r left w a = record { text = bytes t ++ bytes u; prints = prints; stored = stored 0 0 (bytes t ++ bytes u) out filled r left w a }
 
-  pub printed-both : (middle left : List ℕ) (answer : ℕ) → t .len + u .len ≤ length out → answer ≡ coded 0 0 (t .len + u .len)
-      → middle ≡ placed out 0 (bytes t) → left ≡ placed middle (t .len) (bytes u) → Printed f out answer left
-  printed-both middle left answer le is a b =
+  pub printed-short : length out < t .len + u .len → (r : ℕ) → r ≡ coded 12 0 0 → Printed f out r out
+  unfolding codedAnswer
+  printed-short lt r a = printed (Refused 12) r out (fills-short 0 (bytes t ++ bytes u) out refl (omega (arith, sizes))) a
+
+  pub printed-both : (middle left : List ℕ) (r : ℕ) → t .len + u .len ≤ length out → r ≡ coded 0 0 (t .len + u .len)
+      → middle ≡ placed out 0 (bytes t) → left ≡ placed middle (t .len) (bytes u) → Printed f out r left
+  unfolding codedAnswer
+  printed-both middle left r le is a b =
       let size : length (bytes t) ≡ t .len = length-take-le (t .len) (t .at) (omega arith) in
-      record {
-        text = bytes t ++ bytes u;
-        prints = prints;
-        stored = stored-fits 0 (bytes t ++ bytes u) out (omega (arith, sizes)) answer left
-            (is ∙ ap (coded 0 0) (sym sizes))
-            (b ∙ ap (λ (l : List ℕ). placed l (t .len) (bytes u)) a ∙ placed-placed out 0 (bytes t) (bytes u) (t .len) (omega (arith, size)) (omega (arith, size)));
-      }
+      printed (Written (t .len + u .len)) r left
+      (fills-written 0 (bytes t ++ bytes u) out refl (omega (arith, sizes)) (t .len + u .len) (sym sizes) left
+      (b ∙ ap (λ (l : List ℕ). placed l (t .len) (bytes u)) a ∙ placed-placed out 0 (bytes t) (bytes u) (t .len) (omega (arith, size)) (omega (arith, size))))
+      is

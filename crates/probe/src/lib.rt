@@ -1,20 +1,22 @@
 // The probe's library: the calls that it offers to firmware, on numbers and slices, with C names and no condition on their arguments.
 // Every answer has one coding, `coded` of specs/Calls.antt.
 
+use output::Filled;
 use recording::causes;
-use translation::Translation;
-use translation::output;
 use verdict::Answer;
 use verdict::Verdict;
 ghost use mathlib.Core.Path.{_≡_};
-ghost use Prim.Native.Nat.{_≤_};
-ghost use lib.ListN.{length};
+ghost use mathlib.Core.List.{[], _∷_};
+ghost use Prim.Native.Nat.{ℕ, _≤_};
 ghost use Rattle.recording.specs.Causes.{refusal};
+ghost use Rattle.recording.specs.Load.{causeFor};
 ghost use Rattle.models.specs.Rules.{IMM, ARMv8};
 ghost use Rattle.imm.specs.Judged as imm;
 ghost use Rattle.armv8.specs.Judged as armv8;
-ghost use Rattle.translation.specs.TranslationAnswer.{translationOf, outputOf};
-ghost use Rattle.probe.specs.Calls.{coded, codedTranslation, Stored, Reported, Reports, Printed};
+ghost use Rattle.verdict.specs.Answer.{refusalOf, ruleOf};
+ghost use Rattle.output.specs.declared.Filled.the-variants.{Written};
+ghost use Rattle.translation.specs.TranslationAnswer.{translation};
+ghost use Rattle.probe.specs.Calls.{coded, codedAnswer, Stored, Reported, Reports, Printed};
 
 // An answer: the number of the refusal, that of the broken rule, and how many bytes were written.
 fn coded(cause: u8, rule: u8, written: usize) -> u64
@@ -32,16 +34,26 @@ pub extern "C" fn probe_load(file: &[u8]) -> u64
     coded(causes::number(causes::load(file)), 0, 0)
 }
 
-// Puts bytes at the start of the output, for the broken rule of that number; refused with 12 where the output is shorter.
-fn stored(rule: u8, bytes: &[u8], out: &mut [u8]) -> u64
-    requires { ⌜ length (now bytes) ≤ 64 ⌝ }
-    ensures { λ r. ⌜ Stored rule (now (bytes .entry)) (now (out .entry)) r (now (out .exit)) ⌝ }
+// The answer of a call that fills an output: its refusal, or the number of the broken rule and the length written.
+fn answered(rule: u8, filled: Filled) -> u64
+    requires { ⌜ ((n : ℕ) → filled ≡ Written n → n ≤ 1320) ⌝ }
+    ensures { λ r. ⌜ r ≡ codedAnswer rule filled ⌝ }
 {
-    if out.len() < bytes.len() {
-        return coded(12, 0, 0);
+    match filled {
+        Filled::Refused(k) => coded(k, 0, 0),
+        Filled::Written(n) => coded(0, rule, n),
     }
-    output::put(out, 0, bytes);
-    coded(0, rule, bytes.len())
+}
+
+// The numbers of a verdict's answer: of the cause that refused, and of the broken rule; 0 where there is none.
+fn numbers(answer: Answer) -> [u8; 2]
+    ensures { λ r. ⌜ r ≡ refusalOf answer ∷ ruleOf answer ∷ [] ⌝ }
+{
+    match answer {
+        Answer::Refused(k) => [k, 0],
+        Answer::Allowed => [0, 0],
+        Answer::Broken(rule) => [0, rule],
+    }
 }
 
 // Puts the events that a verdict shows at the start of the output; a refusal is answered by its number.
@@ -50,13 +62,13 @@ fn reported(v: Verdict, out: &mut [u8]) -> u64
     ensures { λ r. ⌜ Reported v (now (out .entry)) r (now (out .exit)) ⌝ }
 {
     let answer = v.answer;
+    let number = numbers(answer);
+    if number[0] != 0 {
+        return coded(number[0], 0, 0);
+    }
     let at = v.at;
     let n = v.len;
-    match answer {
-        Answer::Refused(k) => coded(k, 0, 0),
-        Answer::Allowed => stored(0, &at[..n], out),
-        Answer::Broken(rule) => stored(rule, &at[..n], out),
-    }
+    answered(number[1], output::fill(out, &at[..n]))
 }
 
 // The IMM verdict on a source file; the events that are shown of it, at most 64, fill the output's start. Refused with a number, 1 to 12,
@@ -81,13 +93,9 @@ pub extern "C" fn probe_armv8(file: &[u8], out: &mut [u8]) -> u64
 // stays as it was.
 #[no_mangle]
 pub extern "C" fn probe_translate(file: &[u8], out: &mut [u8]) -> u64
-    ensures answer { λ r. ⌜ r ≡ codedTranslation (translationOf (now (file .entry)) (length (now (out .entry)))) ⌝ }
-    ensures output { λ _. ⌜ now (out .exit) ≡ outputOf (now (file .entry)) (now (out .entry)) ⌝ }
+    ensures { λ r. ⌜ Stored (causeFor 1 (now (file .entry))) 0 (translation (now (file .entry))) (now (out .entry)) r (now (out .exit)) ⌝ }
 {
-    match translation::translate(file, out) {
-        Translation::Refused(k) => coded(k, 0, 0),
-        Translation::Written(n) => coded(0, 0, n),
-    }
+    answered(0, translation::translate(file, out))
 }
 
 // Writes the lines that the judge prints of a file, at most 640 bytes, to the start of the output. Refused with 12 where the output is

@@ -3,18 +3,18 @@
 
 use libc::STDERR_FILENO;
 use libc::STDOUT_FILENO;
+use output::Filled;
 use recording::INPUT;
-use translation::Translation;
 
 fn main() {
     let mut start = [0u8; INPUT];
     let n = console::read(&mut start);
     let mut bytes = [0u8; 1320];
     match translation::of_input(start, n, &mut bytes) {
-        Translation::Refused(k) => {
+        Filled::Refused(k) => {
             console::print(STDERR_FILENO, lines::line(true, verdict::refused(k)));
         }
-        Translation::Written(m) => {
+        Filled::Written(m) => {
             console::write(STDOUT_FILENO, &bytes[..m]);
         }
     }

@@ -12,9 +12,8 @@ pub mod Relates
 pub mod LegalEvents
 pub mod LegalLinks
 pub mod TranslationLoads
-pub mod OutputLaws
 pub mod EventLaws
 pub mod LinkRows
 pub mod WriteLaws
-pub mod TranslationCall
 pub mod Theorems
+pub mod TranslationCall

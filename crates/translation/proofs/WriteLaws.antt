@@ -13,16 +13,17 @@ use Rattle.relation.specs.Rel.{Set, inverse, least, count, Next}
 use Rattle.relation.proofs.SetLaws.{Least, least-is, skip-to}
 use Rattle.layout.specs.Layout.{eventByte}
 use Rattle.layout.specs.Chains.{startOf}
+use Rattle.output.specs.Output.{placed}
+use Rattle.output.proofs.OutputLaws.{placed-nil, length-placed, placed-placed}
 use Rattle.translation.specs.Contents.{Contents, contents}
 use Rattle.translation.specs.Translate.{newEvents, after, keptOr, newMode, newFlag, newLink, translated}
 use Rattle.translation.specs.Encode.{chained, records, isLink, linksBefore, linksUpTo, header, eventRecord, linkRecord, eventRecords, linkRecords}
 use Rattle.translation.specs.TranslationAnswer.{chip}
-use Rattle.translation.specs.Parts.{Source, placed, rowRecord, linkStretch}
+use Rattle.translation.specs.Parts.{Source, rowRecord, linkStretch}
 use Rattle.relation.proofs.Counting.{count-le, count-mono, count-yes, count-no, count-lt, count-add, count-same}
 use Rattle.translation.proofs.RecordLaws.{records-yes, records-no, records-length, records-add, records-same}
 use Rattle.translation.proofs.EncodeLaws.{link-size, events-length, links-length}
 use Rattle.translation.proofs.EncodedLinks.{digits, link-number}
-use Rattle.translation.proofs.OutputLaws.{placed-nil, length-placed, placed-placed}
 use Rattle.translation.proofs.Bounds.{most-links}
 use Rattle.translation.proofs.LinkRows.{LinksCounted, links-start, links-more, links-all, EventsCounted, events-start, events-more, count-row}
 

@@ -1,10 +1,10 @@
 -- What the parts of the translator ask for and answer.
 use mathlib.Core.Path.{_≡_}
 use mathlib.Core.Bool.{Bool, true, false, _&&_}
-use mathlib.Core.List.{List, [], _∷_, _++_}
+use mathlib.Core.List.{List, [], _∷_}
 use Prim.Native.Nat.{ℕ, suc, _+_, _<_, _≤_}
 use lib.Dec.{leb}
-use lib.ListN.{length, getD, take, drop}
+use lib.ListN.{getD}
 use Rattle.relation.specs.Rel.{Set, Rel, either, inverse, count}
 use Rattle.relation.specs.Bits.{bit}
 use Rattle.layout.specs.Layout.{kind}
@@ -17,10 +17,6 @@ use Rattle.translation.specs.Encode.{chained, records, isLink, linkRecor
 pub record Source (f : List ℕ) : Type 0 where
   pub loads : refusal f ≡ 0
   pub source : kind f ≡ 1
-
--- The bytes with a record in place of what stood from a place on.
-unfoldable pub placed : List ℕ → ℕ → List ℕ → List ℕ
-placed out at record-bytes = take at out ++ (record-bytes ++ drop (at + length record-bytes) out)
 
 module _ (s : Contents) where
   -- An event of the translation.

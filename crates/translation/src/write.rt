@@ -2,7 +2,6 @@
 
 use crate::event;
 use crate::link;
-use crate::output;
 use relation::grid::Grid;
 use relation::row;
 use relation::row::Row;
@@ -11,11 +10,12 @@ ghost use Prim.Native.Nat.{suc, _+_, _*_, _≤_, _<_};
 ghost use lib.ListN.{length};
 ghost use Rattle.relation.specs.Rel.{count};
 ghost use Rattle.relation.specs.Bits.{bit, edge};
+ghost use Rattle.output.specs.Output.{placed};
 ghost use Rattle.translation.specs.Contents.{contents};
 ghost use Rattle.translation.specs.Translate.{newEvents};
 ghost use Rattle.translation.specs.Encode.{chained, linksBefore, linksUpTo, header, eventRecord, eventRecords, linkRecords, records};
 ghost use Rattle.translation.specs.TranslationAnswer.{chip};
-ghost use Rattle.translation.specs.Parts.{Source, NewEvent, Ready, Ends, placed, rowRecord, linkStretch};
+ghost use Rattle.translation.specs.Parts.{Source, NewEvent, Ready, Ends, rowRecord, linkStretch};
 
 // The header: kind 2, the new N and M, the old L and heads.
 pub fn header(file: &[u8], n: usize, m: usize) -> [u8; 8]
@@ -32,6 +32,16 @@ pub fn header(file: &[u8], n: usize, m: usize) -> [u8; 8]
         file[6],
         file[7],
     ]
+}
+
+// The number after n, where it is at most the last, else 0.
+pub fn chained(last: usize, n: usize) -> usize
+    ensures { λ r. ⌜ (r ≡ chained last n) × (r ≤ last) ⌝ }
+{
+    if n < last {
+        return n + 1;
+    }
+    0
 }
 
 // The record of event e, whose first link is given.
@@ -60,7 +70,7 @@ pub fn write_events(out: &mut [u8], file: &[u8], ends: [u8; 64], n: usize)
     let mut e: usize = 1;
     while e <= n {
         let last = ends[e] as usize;
-        let bytes = event_record(file, e, output::chained(last, before));
+        let bytes = event_record(file, e, chained(last, before));
         output::put(out, 8 * e, &bytes);
         before = last;
         e += 1;
@@ -76,7 +86,7 @@ pub fn write_row(part: &mut [u8], row: Row, t: usize, last: usize, n: usize) -> 
     let mut m = n;
     let mut a = row::first(row);
     while a < 64 {
-        let bytes = [output::chained(last, m + 1) as u8, t as u8, a as u8, 0];
+        let bytes = [chained(last, m + 1) as u8, t as u8, a as u8, 0];
         output::put(part, 4 * m, &bytes);
         m += 1;
         a = row::next(row, a + 1);

@@ -15,3 +15,15 @@ breaks k = Broken k
 abbrev pub answers : ℕ → Answer
 answers zero = Allowed
 answers (suc k) = breaks (suc k)
+
+-- The number of the cause that refused, and 0 of an answer that is no refusal.
+unfoldable pub refusalOf : Answer → ℕ
+refusalOf (Refused k) = k
+refusalOf Allowed = 0
+refusalOf (Broken k) = 0
+
+-- The number of the broken rule, and 0 of an answer that says none is broken.
+unfoldable pub ruleOf : Answer → ℕ
+ruleOf (Refused k) = 0
+ruleOf Allowed = 0
+ruleOf (Broken k) = k

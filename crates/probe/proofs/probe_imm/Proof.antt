@@ -1,20 +1,14 @@
 -- `probe_imm` meets its contract.
-use Rattle.judgement.proofs.PrintLaws.{imm-bounded}
+use Rattle.probe.proofs.ProbeLaws.{few-shown}
 use borrow.Author.Needs.{needs}
 use Rattle.probe.proofs.probe_imm.Statement.{statement}
 use Rattle.probe.proofs.probe_imm.Tie as tie
 
-verdict-requires : tie.Need-verdict-requires
-verdict-requires c κs = search needs
-
 reported-requires : tie.Need-reported-requires
-reported-requires c κs = imm-bounded _ _ _ (c .before .verdict .ensures)
-
-same-length : tie.Need-same-length
-same-length c = search needs
+reported-requires c κs = few-shown _ _ _ _ _ (λ B s. s .bound) (c .before .verdict .ensures)
 
 returns : tie.Need-returns
 returns c = record { verdict = _; on-file = c .before .before .before .before .verdict .ensures; reported = c .before .before .reported .ensures }
 
 pub probe-imm-spec : {M : Type 1} → statement M
-probe-imm-spec = tie.close (tie.spec verdict-requires reported-requires same-length returns)
+probe-imm-spec = tie.close (tie.spec (λ c κs. search needs) reported-requires (λ c. search needs) returns)

@@ -4,7 +4,7 @@ use native.Mathlib.Omega.{arith}
 use lib.ListN.{length}
 use lib.Seq.{length-take-le}
 use Rattle.recording.proofs.Longest.{read-longest}
-use Rattle.translation.proofs.TranslationCall.{answers-input}
+use Rattle.translation.proofs.TranslationCall.{fills-input}
 use borrow.Author.Needs.{needs}
 use Rattle.translation.proofs.of_input.Statement.{statement}
 use Rattle.translation.proofs.of_input.Tie as tie
@@ -17,12 +17,9 @@ slice-aggregate-translate c =
 
 returns : tie.Need-returns
 returns c =
-    let called = c .before .before .translate .ensures in
     let t = c .before .before .before .before .before .before in
-    let long : length (t .args .t1) ≡ 1413 = search needs in (
-      λ input read. answers-input _ _ (read-longest input (t .args .t1) (t .args .n) long read) _ _ _ (record { answer = called .0; output = called .1 }) .answer,
-      λ input read. answers-input _ _ (read-longest input (t .args .t1) (t .args .n) long read) _ _ _ (record { answer = called .0; output = called .1 }) .output,
-    )
+    let long : length (t .args .t1) ≡ 1413 = search needs in
+    λ input read. fills-input _ _ (read-longest input (t .args .t1) (t .args .n) long read) _ _ _ (c .before .before .translate .ensures)
 
 pub of-input-spec : {M : Type 1} → statement M
 of-input-spec =

@@ -2,7 +2,7 @@
 use mathlib.Core.Path.{ap, _∙_}
 use mathlib.Core.List.{[]}
 use native.Mathlib.Omega.{arith}
-use Rattle.translation.specs.Parts.{placed}
+use Rattle.output.specs.Output.{placed}
 use Rattle.translation.proofs.TranslationCall.{source-of, refused-short, events-room, links-part, all-written}
 use Rattle.translation.proofs.LinkRows.{ends-few}
 use borrow.Author.Needs.{needs}
@@ -28,8 +28,7 @@ returns : tie.Need-returns
 returns c =
     let counted = c .before in
     let start = counted .before .before .before .before .before in
-    let w = refused-short _ _ _ _ (start .pre) (counted .before .new-events .ensures .0) (counted .ends .ensures .upto _ (omega arith)) (c .if1 .taken) in
-    (w .answer, w .output)
+    refused-short _ _ _ _ (start .pre) (counted .before .new-events .ensures .0) (counted .ends .ensures .upto _ (omega arith)) (c .if1 .taken)
 
 header-requires : tie.Need-header-requires
 header-requires c κs =
@@ -70,9 +69,8 @@ returns-2 c =
     let enough = made .before in
     let counted = enough .before in
     let start = counted .before .before .before .before .before in
-    let w = all-written _ _ _ _ _ _ _ (start .pre) (counted .before .new-events .ensures .0) (counted .ends .ensures .upto _ (omega arith)) (enough .if1 .left)
-    (put .put .ensures ∙ ap (placed _ 0) (made .header .ensures)) (events .write-events .ensures) (c .before .before .write-links .ensures) in
-    (w .answer, w .output)
+    all-written _ _ _ _ _ _ _ (start .pre) (counted .before .new-events .ensures .0) (counted .ends .ensures .upto _ (omega arith)) (enough .if1 .left)
+    (put .put .ensures ∙ ap (placed _ 0) (made .header .ensures)) (events .write-events .ensures) (c .before .before .write-links .ensures)
 
 pub written-spec : {M : Type 1} → statement M
 written-spec =
