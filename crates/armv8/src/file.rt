@@ -1,20 +1,21 @@
 // The ARMv8 verdict on a file's bytes.
 
 use crate::judge;
+use layout::kind;
 use recording::causes;
 use verdict::Verdict;
-ghost use mathlib.Core.Path.{_≡_};
 ghost use Rattle.models.specs.Rules.{ARMv8};
+ghost use Rattle.layout.specs.Layout.{chip};
 ghost use Rattle.layout.specs.Decode.{decode};
-ghost use Rattle.recording.specs.Load.{causeFor};
+ghost use Rattle.recording.specs.Load.{LoadsAs};
 ghost use Rattle.execution.specs.OnFile.{OnRecording, OnFile};
 ghost use Rattle.armv8.specs.Judged.{Judged};
 
-// The verdict on a chip recording, and what is shown of it: refused with 1 to 10 as loading does, with 11 where it is of the other kind.
+// The verdict on a chip recording, and what is shown of it: refused with 1 to 10 as loading does, with 11 where it is of the other side.
 pub fn verdict(file: &[u8]) -> Verdict
-    ensures { λ r. ⌜ OnFile 2 ARMv8 Judged (now (file .entry)) r ⌝ }
+    ensures { λ r. ⌜ OnFile chip ARMv8 Judged (now (file .entry)) r ⌝ }
 {
-    let k = causes::cause(file, 2);
+    let k = causes::cause(file, kind::CHIP);
     if k != 0 {
         return verdict::refused(k);
     }
@@ -23,7 +24,7 @@ pub fn verdict(file: &[u8]) -> Verdict
 
 // The verdict on a chip recording that loads, and what is shown of it.
 pub fn loaded(file: &[u8]) -> Verdict
-    requires { ⌜ causeFor 2 (now file) ≡ 0 ⌝ }
+    requires { ⌜ LoadsAs chip (now file) ⌝ }
     ensures { λ r. ⌜ OnRecording ARMv8 Judged (decode (now (file .entry))) r ⌝ }
 {
     judge(execution::sets(file), execution::relations(file))

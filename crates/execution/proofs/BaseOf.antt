@@ -8,12 +8,14 @@ use Rattle.relation.specs.Rel.{Rel, inverse, nodes}
 use Rattle.relation.specs.Bits.{edge}
 use Rattle.models.specs.Recording.{Recording}
 use Rattle.models.specs.Graph.{Base, base}
+use Rattle.layout.specs.Layout.{Side}
 use Rattle.layout.specs.Decode.{decode}
 use Rattle.recording.specs.Causes.{refusal}
 use Rattle.recording.specs.Load.{causeFor}
 use Rattle.reading.specs.Sets.{LinkRows}
 use Rattle.models.specs.Rules.{Model, verdict}
 use Rattle.models.proofs.Agree.{recording-verdict}
+use Rattle.recording.proofs.CauseLaws.{cause-own}
 use Rattle.recording.proofs.Loaded.{loaded-within}
 use Rattle.verdict.specs.Answer.{refuses, answers}
 use Rattle.verdict.specs.declared.Verdict.{Verdict}
@@ -61,17 +63,17 @@ module _ (M : Model) (Judged : Base → Verdict → Type 0) (f : List ℕ) (v : 
       }
 
   -- A verdict on a file is the number of its refusal, or one on its recording.
-  module _ (k n : ℕ) (cause : n ≡ causeFor k f) where
-    pub on-refused : (n ≡ 0 → ⊥) → v .answer ≡ refuses n → v .len ≡ 0 → OnFile k M Judged f v
+  module _ (s : Side) (n : ℕ) (cause : n ≡ causeFor s f) where
+    pub on-refused : (n ≡ 0 → ⊥) → v .answer ≡ refuses n → v .len ≡ 0 → OnFile s M Judged f v
     on-refused d a l =
         record {
           refused = λ m e. (a ∙ ap refuses (cause ∙ e), l);
-          judged = λ e. absurd (d (cause ∙ e));
+          judged = λ l. absurd (d (cause ∙ cause-own s f l));
         }
 
-    pub on-loaded : n ≡ 0 → OnRecording M Judged (decode f) v → OnFile k M Judged f v
+    pub on-loaded : n ≡ 0 → OnRecording M Judged (decode f) v → OnFile s M Judged f v
     on-loaded z on =
         record {
           refused = λ m e. absurd (let q : suc m ≡ 0 = sym e ∙ sym cause ∙ z in omega arith);
-          judged = λ e. on;
+          judged = λ l. on;
         }

@@ -1,4 +1,4 @@
--- What a verdict over a file's bytes answers, for a model whose files are of kind k (01, "Causes of refusal").
+-- What a verdict over a file's bytes answers, for a model whose files are of side s (01, "Causes of refusal").
 use mathlib.Core.Path.{_≡_}
 use mathlib.Core.List.{List}
 use Prim.Native.Nat.{ℕ, suc}
@@ -7,8 +7,9 @@ use Rattle.relation.specs.Order.{EachOnce}
 use Rattle.models.specs.Recording.{Recording, event}
 use Rattle.models.specs.Graph.{Base, base, graph}
 use Rattle.models.specs.Rules as models
+use Rattle.layout.specs.Layout.{Side}
 use Rattle.layout.specs.Decode.{decode}
-use Rattle.recording.specs.Load.{causeFor}
+use Rattle.recording.specs.Load.{LoadsAs, causeFor}
 use Rattle.verdict.specs.Answer.{refuses, answers}
 use Rattle.verdict.specs.Shown.{events}
 use Rattle.verdict.specs.declared.Verdict.{Verdict}
@@ -21,10 +22,10 @@ pub record OnRecording (M : models.Model) (Judged : Base → Verdict → Type 0)
   pub answer : v .answer ≡ answers number
   pub shown : Judged (base nodes r) v
 
--- Refused with the number of the first cause, 11 for the other kind, and no event; else the model's verdict on the recording.
-pub record OnFile (k : ℕ) (M : models.Model) (Judged : Base → Verdict → Type 0) (f : List ℕ) (v : Verdict) : Type 0 where
-  pub refused : (n : ℕ) → causeFor k f ≡ suc n → (v .answer ≡ refuses (suc n)) × (v .len ≡ 0)
-  pub judged : causeFor k f ≡ 0 → OnRecording M Judged (decode f) v
+-- Refused with the number of the first cause, 11 for the other side, and no event; else the model's verdict on the recording.
+pub record OnFile (s : Side) (M : models.Model) (Judged : Base → Verdict → Type 0) (f : List ℕ) (v : Verdict) : Type 0 where
+  pub refused : (n : ℕ) → causeFor s f ≡ suc n → (v .answer ≡ refuses (suc n)) × (v .len ≡ 0)
+  pub judged : LoadsAs s f → OnRecording M Judged (decode f) v
 
 -- "Allowed: all events": where a verdict on the file f is allowed, it shows every event of the recording exactly once.
 -- `imm-shows-all` and `armv8-shows-all` prove it of every verdict that is `OnFile`.

@@ -1,20 +1,21 @@
 // The IMM verdict on a file's bytes.
 
 use crate::judge;
+use layout::kind;
 use recording::causes;
 use verdict::Verdict;
-ghost use mathlib.Core.Path.{_≡_};
 ghost use Rattle.models.specs.Rules.{IMM};
+ghost use Rattle.layout.specs.Layout.{source};
 ghost use Rattle.layout.specs.Decode.{decode};
-ghost use Rattle.recording.specs.Load.{causeFor};
+ghost use Rattle.recording.specs.Load.{LoadsAs};
 ghost use Rattle.execution.specs.OnFile.{OnRecording, OnFile};
 ghost use Rattle.imm.specs.Judged.{Judged};
 
-// The verdict on a source recording, and what is shown of it: refused with 1 to 10 as loading does, with 11 where it is of the other kind.
+// The verdict on a source recording, and what is shown of it: refused with 1 to 10 as loading does, with 11 where it is of the other side.
 pub fn verdict(file: &[u8]) -> Verdict
-    ensures { λ r. ⌜ OnFile 1 IMM Judged (now (file .entry)) r ⌝ }
+    ensures { λ r. ⌜ OnFile source IMM Judged (now (file .entry)) r ⌝ }
 {
-    let k = causes::cause(file, 1);
+    let k = causes::cause(file, kind::SOURCE);
     if k != 0 {
         return verdict::refused(k);
     }
@@ -23,7 +24,7 @@ pub fn verdict(file: &[u8]) -> Verdict
 
 // The verdict on a source recording that loads, and what is shown of it.
 pub fn loaded(file: &[u8]) -> Verdict
-    requires { ⌜ causeFor 1 (now file) ≡ 0 ⌝ }
+    requires { ⌜ LoadsAs source (now file) ⌝ }
     ensures { λ r. ⌜ OnRecording IMM Judged (decode (now (file .entry))) r ⌝ }
 {
     judge(execution::sets(file), execution::relations(file))

@@ -3,16 +3,17 @@ use mathlib.Core.Path.{_≡_}
 use mathlib.Core.List.{List, [], _++_}
 use Prim.Native.Nat.{ℕ, suc}
 use Rattle.models.specs.Rules.{IMM, ARMv8}
-use Rattle.layout.specs.Layout.{kind}
+use Rattle.layout.specs.Layout as layout
 use Rattle.layout.specs.Decode.{decode}
 use Rattle.recording.specs.Causes.{refusal}
+use Rattle.recording.specs.Load.{LoadsAs}
 use Rattle.verdict.specs.declared.Verdict.{Verdict}
 use Rattle.verdict.specs.Answer.{refuses, answers}
 use Rattle.verdict.specs.Shown.{events}
 use Rattle.execution.specs.OnFile.{OnRecording}
 use Rattle.imm.specs.Judged as imm
 use Rattle.armv8.specs.Judged as armv8
-use Rattle.translation.specs.TranslationAnswer.{translation}
+use Rattle.translation.specs.Translation.{translation}
 use Rattle.lines.specs.Lines.{source, chip, lineOf}
 
 -- v is the IMM verdict, or the ARMv8 verdict, on the recording of a file that loads.
@@ -44,5 +45,5 @@ pub record ChipLine (f text : List ℕ) : Type 0 where
 -- The text is what the judge prints of the file f. Which ring is shown is free; all else is fixed. A refusal's line has no model's word.
 pub record Prints (f text : List ℕ) : Type 0 where
   pub refused : (n : ℕ) → refusal f ≡ suc n → text ≡ lineOf chip (refuses (suc n)) []
-  pub on-source : refusal f ≡ 0 → kind f ≡ 1 → SourceLines f text
-  pub on-chip : refusal f ≡ 0 → kind f ≡ 2 → ChipLine f text
+  pub on-source : LoadsAs layout.source f → SourceLines f text
+  pub on-chip : LoadsAs layout.chip f → ChipLine f text

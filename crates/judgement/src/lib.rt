@@ -9,10 +9,11 @@ use verdict::Verdict;
 ghost use mathlib.Core.Path.{_≡_};
 ghost use mathlib.Core.List.{List, _++_};
 ghost use Prim.Native.Nat.{ℕ, _≤_};
-ghost use Rattle.recording.specs.Load.{causeFor};
+ghost use Rattle.layout.specs.Layout.{source};
+ghost use Rattle.recording.specs.Load.{LoadsAs};
 ghost use Rattle.recording.specs.Input.{ReadOf};
 ghost use Rattle.verdict.specs.Answer.{answers};
-ghost use Rattle.translation.specs.TranslationAnswer.{translation};
+ghost use Rattle.translation.specs.Translation.{translation};
 ghost use Rattle.lines.specs.Put.{bytes};
 ghost use Rattle.judgement.specs.Judgement.{OnSource, OnChip, Prints};
 
@@ -30,7 +31,7 @@ pub struct Lines {
 
 // The verdict on the translation of a source file that loads, and what is shown of it. A translation has at most 1320 bytes, and loads.
 pub fn chip(file: &[u8]) -> Verdict
-    requires { ⌜ causeFor 1 (now file) ≡ 0 ⌝ }
+    requires { ⌜ LoadsAs source (now file) ⌝ }
     ensures { λ r. ⌜ OnChip (translation (now (file .entry))) r ⌝ }
 {
     let mut bytes = [0u8; 1320];
@@ -42,7 +43,7 @@ pub fn chip(file: &[u8]) -> Verdict
 
 // The verdicts on a source file that loads and on its translation. Where the translation is allowed, so is the source (demand 3).
 pub fn both(file: &[u8]) -> Verdicts
-    requires { ⌜ causeFor 1 (now file) ≡ 0 ⌝ }
+    requires { ⌜ LoadsAs source (now file) ⌝ }
     ensures source { λ r. ⌜ OnSource (now (file .entry)) (r .source) ⌝ }
     ensures chip { λ r. ⌜ OnChip (translation (now (file .entry))) (r .chip) ⌝ }
     ensures sound { λ r. ⌜ (r .chip .answer ≡ answers 0 → r .source .answer ≡ answers 0) ⌝ }
@@ -77,8 +78,8 @@ pub fn printed(file: &[u8]) -> Lines
     let Load::Loaded(h) = answer else {
         return single(lines::line(true, verdict::refused(causes::number(answer))));
     };
-    let kind = h.kind;
-    if kind == 1 {
+    let source = h.source;
+    if source {
         let verdicts = both(file);
         let first = lines::line(false, verdicts.source);
         let second = lines::line(true, verdicts.chip);

@@ -24,21 +24,35 @@ locations f = byte f 2
 abbrev pub links : List ℕ → ℕ
 links f = byte f 3
 
--- What varies by kind: 1 is source, 2 is chip.
+-- The kinds: 1 is source, 2 is chip.
 unfoldable pub kindKnown : ℕ → Bool
 kindKnown k = eqb k 1 || eqb k 2
 
-unfoldable pub isSource : ℕ → Bool
-isSource k = eqb k 1
+-- A recording is of one of two sides by its kind, source or chip. Its limits and its legal records go by the side.
+abbrev pub Side : Type 0
+Side = Bool
 
-unfoldable pub mostEvents : ℕ → ℕ
-mostEvents k = elim (isSource k) [ true ↦ 32 | false ↦ 48 ]
+abbrev pub source : Side
+source = true
+
+abbrev pub chip : Side
+chip = false
+
+unfoldable pub sideOf : ℕ → Side
+sideOf k = eqb k 1
+
+abbrev pub side : List ℕ → Side
+side f = sideOf (kind f)
+
+-- The limits, of source and of chip.
+unfoldable pub mostEvents : Side → ℕ
+mostEvents s = elim s [ true ↦ 32 | false ↦ 48 ]
 
 abbrev pub mostLocations : ℕ
 mostLocations = 8
 
-unfoldable pub mostLinks : ℕ → ℕ
-mostLinks k = elim (isSource k) [ true ↦ 200 | false ↦ 255 ]
+unfoldable pub mostLinks : Side → ℕ
+mostLinks s = elim s [ true ↦ 200 | false ↦ 255 ]
 
 abbrev pub headerSize : ℕ
 headerSize = 8
@@ -73,7 +87,7 @@ linkByte f m k = byte f (linkStart f + linkSize * (m - 1) + k)
 abbrev pub firstInitial : ℕ
 firstInitial = 56
 
--- What causes 3 and 4 leave of a file: its limits, whatever its kind, and its length. Everything below is read within it.
+-- What causes 3 and 4 leave of a file: its limits, whatever its side, and its length. Everything below is read within it.
 pub record Sized (f : List ℕ) : Type 0 where
   pub long : length f ≡ fullLength f
   pub most-events : events f ≤ 48

@@ -1,11 +1,20 @@
 // Reading a file whose limits and length are right: bytes of records, and what they say of an event.
 // Every number may be asked for. One below 56 that has no record gives 0 or false; one from 56 on gives what an initial write has (specs/Decode.antt).
 
+use crate::kind;
 ghost use mathlib.Core.Path.{_≡_};
 ghost use Prim.Native.Nat.{_≤_, _<_};
 ghost use Rattle.models.specs.Recording.{event, ofClass, flagged, access};
-ghost use Rattle.layout.specs.Layout.{events, locations, links, eventByte, linkByte, Sized, Following};
+ghost use Rattle.layout.specs.Layout.{side, events, locations, links, eventByte, linkByte, Sized, Following};
 ghost use Rattle.layout.specs.Decode.{isRecorded, isInitial, fieldOr, decode};
+
+// The side of the file: whether it is a source recording.
+pub fn side(file: &[u8]) -> bool
+    requires { ⌜ Sized (now file) ⌝ }
+    ensures { λ r. ⌜ r ≡ side (now (file .entry)) ⌝ }
+{
+    kind::side_of(file[0] as usize)
+}
 
 // The number of event records.
 pub fn events(file: &[u8]) -> usize

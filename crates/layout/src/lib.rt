@@ -2,3 +2,4 @@
 
 pub mod chain;
 pub mod field;
+pub mod kind;

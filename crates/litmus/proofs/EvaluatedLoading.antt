@@ -1,11 +1,11 @@
 -- A test of loading that can be evaluated. Causes 8 and 9 close `next` and `co` over 64 numbers, at a cost that doubles with each;
 -- here they are closed over the records, and the sources of a read are sought among its links. A file that passes loads.
 use mathlib.Core.Path.{_≡_, refl, sym, ap, fun-ext, _∙_}
-use mathlib.Core.Bool.{Bool, true, false, not, _&&_, _||_, false≢true}
+use mathlib.Core.Bool.{Bool, true, false, not, _&&_, false≢true}
 use mathlib.Core.List.{List, [], _∷_, List·Memᴰ}
-use Prim.Native.Nat.{ℕ, _<_, _≤_}
+use Prim.Native.Nat.{ℕ, _<_}
 use native.Mathlib.Omega.{arith}
-use borrow.Author.Tests.{eqb-true, ltb-false, not-false}
+use borrow.Author.Tests.{eqb-true, not-false}
 use lib.Dec.{T, eqb}
 use lib.ListN.{getD}
 use Rattle.relation.specs.Rel.{Set, Rel, union, either, diagonal, some, image, compose, through, plus, inverse, optional, below, nodes}
@@ -15,14 +15,16 @@ use Rattle.models.specs.Steps.{Plus, one, cons}
 use Rattle.models.specs.Graph.{base}
 use Rattle.models.proofs.Tests.{T-ext, some-intro, some-witness, below-listed, plus-steps, Tests, plus-tests}
 use Rattle.models.proofs.MemberLaws.{step-cases, CoStep, linked, initially}
-use Rattle.models.proofs.EvalTable.{orAll}
-use Rattle.layout.specs.Layout.{kind, events, isSource, kindKnown, mostEvents, mostLinks, linkByte}
+use Rattle.models.specs.Rules.{Numbered, first}
+use Rattle.models.proofs.FirstLaws.{positive, testOf, first-fails}
+use Rattle.layout.specs.Layout.{Side, sideOf, side, events, kindKnown, mostEvents, mostLinks, linkByte}
 use Rattle.layout.specs.Chains.{each, linksInto, among, follow, met, fresh, onceEach, nextOf, startOf, allOf}
 use Rattle.layout.specs.Decode.{isRecorded, isInitial, recordOr, fieldOr, decode}
 use Rattle.recording.specs.Causes.{readLegal, writeLegal, fenceMode, fenceLegal, legal, eventLegal, headerOver, sameLocations, rfLegal, coLegal, rmwLegal, fromRead, dataLegal, addrLegal, ctrlLegal, casdepLegal, linkLegal, linkSound, oneSource, linksSoundAt, pairedAt, tooShort, kindUnknown, overLimit, wrongLength, badEvent, badThreads, badChains, badLink, coRing, unpaired, refusal}
 use Rattle.relation.proofs.Truth.{is-true, holds, is-false}
-use Rattle.layout.proofs.FieldLaws.{recorded-bounds}
+use Rattle.layout.proofs.FieldLaws.{recorded-bounds, most-events-48}
 use Rattle.layout.proofs.ChainLaws.{each-at}
+use Rattle.recording.proofs.CauseLaws.{limits}
 use Rattle.recording.proofs.Accepted.{accepts, each-all}
 use Rattle.litmus.proofs.Recorded.{eventList, recorded-listed}
 
@@ -34,30 +36,25 @@ plus-relist es fs s r u v source target =
     fun-ext λ i. fun-ext λ j. T-ext (plus es r i j) (plus fs r i j)
     (λ h. plus-tests fs s v t .from i j (plus-tests es s u t .to i j h)) (λ h. plus-tests es s u t .from i j (plus-tests fs s v t .to i j h))
 
-neither : (a : Bool) (bs : List Bool) → orAll (a ∷ bs) ≡ false → (a ≡ false) × (orAll bs ≡ false)
-unfolding orAll
-neither true bs e = absurd (false≢true (sym e))
-neither false bs e = (refl, e)
-
 -- The conditions of a link, with program order as a parameter.
 module _ (r : Recording ℕ) (po : Rel) where
   unfoldable pub fromReadBy : ℕ → ℕ → Bool
   fromReadBy a b = read r a && po a b
 
-  unfoldable pub linkLegalBy : ℕ → ℕ → ℕ → ℕ → Bool
-  linkLegalBy k t a b =
+  unfoldable pub linkLegalBy : Side → ℕ → ℕ → ℕ → Bool
+  linkLegalBy s t a b =
       getD
       (false ∷ rfLegal r a b ∷ coLegal r a b ∷ rmwLegal r a b
       ∷ (fromReadBy a b && write r b)
       ∷ (fromReadBy a b && access r b)
       ∷ fromReadBy a b
-      ∷ (fromReadBy a b && (isSource k && exclusiveRead r b))
+      ∷ (fromReadBy a b && (s && exclusiveRead r b))
       ∷ [])
       t false
 
-linkLegal-by : (r : Recording ℕ) (k t a b : ℕ) → linkLegal r k t a b ≡ linkLegalBy r (base nodes r .po) k t a b
+linkLegal-by : (r : Recording ℕ) (s : Side) (t a b : ℕ) → linkLegal r s t a b ≡ linkLegalBy r (base nodes r .po) s t a b
 unfolding linkLegal dataLegal addrLegal ctrlLegal casdepLegal fromRead linkLegalBy fromReadBy
-linkLegal-by r k t a b = refl
+linkLegal-by r s t a b = refl
 
 module _ (f : List ℕ) where
   -- The records.
@@ -72,7 +69,7 @@ module _ (f : List ℕ) where
   oneSourceBy b = not (some (linksInto f b) (λ m. some (linksInto f b) (twoSources m)))
 
   unfoldable pub linkSoundBy : ℕ → ℕ → Bool
-  linkSoundBy b m = linkLegalBy (decode f) (base (eventList (events f) 0) (decode f) .po) (kind f) (linkByte f m 1) (linkByte f m 2) b && eqb (linkByte f m 3) 0
+  linkSoundBy b m = linkLegalBy (decode f) (base (eventList (events f) 0) (decode f) .po) (side f) (linkByte f m 1) (linkByte f m 2) b && eqb (linkByte f m 3) 0
 
   unfoldable pub linksSoundBy : ℕ → Bool
   linksSoundBy b = allOf (linksInto f b) (linkSoundBy b) && oneSourceBy b
@@ -85,10 +82,12 @@ module _ (f : List ℕ) where
   coRingBy = some (eventList (events f) 0) (diagonal (plus (eventList (events f) 0) coBetween))
 
   -- The causes. To unfold it is to unfold all that it computes with.
-  unfoldable pub causes : List Bool
-  unfolding eventList fromReadBy linkLegalBy twoSources oneSourceBy linkSoundBy linksSoundBy coBetween coRingBy union either diagonal some image compose through plus inverse optional below ofClass flagged access event sameLocation coStep base isSource kindKnown mostEvents mostLinks each among follow met fresh onceEach nextOf startOf isRecorded isInitial recordOr fieldOr decode readLegal writeLegal fenceMode fenceLegal legal eventLegal headerOver sameLocations rfLegal coLegal rmwLegal allOf pairedAt tooShort kindUnknown overLimit wrongLength badEvent badThreads badChains unpaired
-  causes =
-      tooShort f ∷ kindUnknown f ∷ overLimit f ∷ wrongLength f ∷ badEvent f ∷ badThreads f ∷ badChains f ∷ not (each (events f) linksSoundBy) ∷ coRingBy ∷ unpaired f
+  unfoldable pub evaluated : List Numbered
+  unfolding eventList fromReadBy linkLegalBy twoSources oneSourceBy linkSoundBy linksSoundBy coBetween coRingBy union either diagonal some image compose through plus inverse optional below ofClass flagged access event sameLocation coStep base sideOf kindKnown mostEvents mostLinks each among follow met fresh onceEach nextOf startOf isRecorded isInitial recordOr fieldOr decode readLegal writeLegal fenceMode fenceLegal legal eventLegal headerOver sameLocations rfLegal coLegal rmwLegal allOf pairedAt tooShort kindUnknown overLimit wrongLength badEvent badThreads badChains unpaired
+  evaluated =
+      (1, tooShort f) ∷ (2, kindUnknown f) ∷ (3, overLimit f) ∷ (4, wrongLength f)
+      ∷ (5, badEvent f) ∷ (6, badThreads f) ∷ (7, badChains f)
+      ∷ (8, not (each (events f) linksSoundBy)) ∷ (9, coRingBy) ∷ (10, unpaired f)
       ∷ []
 
   -- A file that passes.
@@ -123,7 +122,7 @@ module _ (f : List ℕ) where
         let t = linkByte f m 1 in
         let a = linkByte f m 2 in
         ap (λ (x : Bool). x && eqb (linkByte f m 3) 0)
-        (linkLegal-by (decode f) (kind f) t a b ∙ ap (λ (po : Rel). linkLegalBy (decode f) po (kind f) t a b) po-same)
+        (linkLegal-by (decode f) (side f) t a b ∙ ap (λ (po : Rel). linkLegalBy (decode f) po (side f) t a b) po-same)
 
     -- A link of type 1 is a record of the chain.
     link-in : (a b : ℕ) → decode f .link 1 a b ≡ true → (m : ℕ) × Mem m (linksInto f b) × (linkByte f m 1 ≡ 1) × (linkByte f m 2 ≡ a)
@@ -199,40 +198,20 @@ module _ (f : List ℕ) where
       let found = plus-tests records (decode f .recorded) recorded-in between-tests .from x x (between r ring) in
       false≢true (sym q ∙ is-true _ (some-intro records (diagonal (plus records coBetween)) (recorded-in x (holds _ r)) found)))
 
-  few-events : overLimit f ≡ false → events f < 64
-  unfolding overLimit headerOver mostEvents
-  few-events p = omega (arith, ltb-false (mostEvents (kind f)) (events f) (left _ _ p), most (isSource (kind f)))
-    where
-      left : (a b : Bool) → a || b ≡ false → a ≡ false
-      left true b e = e
-      left false b e = refl
-
-      most : (b : Bool) → elim b [ true ↦ 32 | false ↦ 48 ] ≤ 48
-      most true = omega arith
-      most false = omega arith
-
-  pub passes-loads : orAll causes ≡ false → refusal f ≡ 0
-  unfolding causes
-  passes-loads p0 =
-      let (c1, p1) = neither (tooShort f) _ p0 in
-      let (c2, p2) = neither (kindUnknown f) _ p1 in
-      let (c3, p3) = neither (overLimit f) _ p2 in
-      let (c4, p4) = neither (wrongLength f) _ p3 in
-      let (c5, p5) = neither (badEvent f) _ p4 in
-      let (c6, p6) = neither (badThreads f) _ p5 in
-      let (c7, p7) = neither (badChains f) _ p6 in
-      let (c8, p8) = neither (not (each (events f) linksSoundBy)) _ p7 in
-      let (c9, p9) = neither coRingBy _ p8 in
-      let (c10, p10) = neither (unpaired f) _ p9 in
+  pub passes-loads : first evaluated ≡ 0 → refusal f ≡ 0
+  unfolding evaluated positive testOf
+  passes-loads e =
+      let p : (k : ℕ) → testOf evaluated k ≡ false = first-fails evaluated refl e in
+      let few : events f < 64 = omega (arith, limits f (p 3) .0, most-events-48 (side f)) in
       accepts f (record {
-        cause1 = c1;
-        cause2 = c2;
-        cause3 = c3;
-        cause4 = c4;
-        cause5 = c5;
-        cause6 = c6;
-        cause7 = c7;
-        cause8 = links-sound (few-events c3) (not-false _ c8);
-        cause9 = co-acyclic c9;
-        cause10 = c10;
+        cause1 = p 1;
+        cause2 = p 2;
+        cause3 = p 3;
+        cause4 = p 4;
+        cause5 = p 5;
+        cause6 = p 6;
+        cause7 = p 7;
+        cause8 = links-sound few (not-false _ (p 8));
+        cause9 = co-acyclic (p 9);
+        cause10 = p 10;
       })

@@ -1,6 +1,6 @@
 -- The litmus table, proved: a row that passes one test holds, and the test is evaluated at every row.
 use mathlib.Core.Path.{_≡_, refl, ap, _∙_}
-use mathlib.Core.Bool.{Bool, true, false, not, _&&_, false≢true}
+use mathlib.Core.Bool.{Bool, true, _&&_}
 use mathlib.Core.List.{List, [], _∷_, List·Memᴰ, List·Memᴰ·head, List·Memᴰ·tail}
 use Prim.Native.Nat.{ℕ, _<_}
 use native.Mathlib.Omega.{arith}
@@ -9,25 +9,25 @@ use lib.Dec.{eqb}
 use lib.ListN.{length}
 use Rattle.relation.specs.Rel.{count, least}
 use Rattle.relation.proofs.Meaning.{and-left, and-right}
-use Rattle.models.specs.Rules.{IMM, ARMv8}
-use Rattle.models.proofs.EvalTable.{orAll, tableVerdict}
-use Rattle.layout.specs.Layout.{kind}
+use Rattle.models.specs.Rules.{IMM, ARMv8, first}
+use Rattle.models.proofs.EvalTable.{tableVerdict}
+use Rattle.layout.specs.Layout.{side}
 use Rattle.recording.specs.Causes.{refusal}
 use Rattle.translation.specs.Contents.{Contents, contents}
 use Rattle.translation.specs.Translate.{flagged, inserted, newEvents, fenced, after, follows, keptOr, newMode, newFlag, controlled, fromExclusive, fromCasdep, newLink, translated}
 use Rattle.translation.specs.Encode.{eventRecord}
-use Rattle.translation.specs.TranslationAnswer.{translation}
+use Rattle.translation.specs.Translation.{translation}
 use Rattle.translation.specs.Parts.{Source}
 use Rattle.translation.proofs.EncodeLaws.{encode-events, encode-locations, encode-event}
 use Rattle.translation.proofs.EncodedLinks.{encoded-link}
 use Rattle.translation.proofs.SourceFacts.{limits}
 use Rattle.translation.proofs.Bounds.{most-events, links-fit}
 use Rattle.translation.proofs.Says.{Bytes, encode-next}
-use Rattle.soundness.specs.Soundness.{LoadsAs, immVerdict, armv8Verdict}
+use Rattle.soundness.specs.Soundness.{immVerdict, armv8Verdict}
 use Rattle.soundness.proofs.Proved.{soundness}
 use Rattle.litmus.specs.Table.{Row, Holds, table, Litmus, empty, messagePassing, releaseAcquire, loadBuffering, loadBufferingData, storeBuffering, storeBufferingFences, independentReads, twoPairs, newerBeforeOlder, normalPair, strongPair}
 use Rattle.litmus.proofs.Recorded.{eventList, hasRecord, saidOr, recordingOf, verdict-computed}
-use Rattle.litmus.proofs.EvaluatedLoading.{causes, passes-loads}
+use Rattle.litmus.proofs.EvaluatedLoading.{evaluated, passes-loads}
 
 -- The bytes of a source file that loads, and of its translation, say what the contents say.
 module _ (f : List ℕ) (s : Source f) where
@@ -73,18 +73,18 @@ module _ (f : List ℕ) (s : Source f) where
 -- The verdicts on what a file's contents and their translation describe. To unfold them is to unfold all that they compute with.
 module _ (f : List ℕ) where
   unfoldable pub sourceVerdict : ℕ
-  unfolding causes tableVerdict eventList hasRecord saidOr recordingOf contents
+  unfolding evaluated tableVerdict eventList hasRecord saidOr recordingOf contents
   sourceVerdict = tableVerdict (eventList (contents f .events) (contents f .locations)) (recordingOf (contents f)) IMM
 
   unfoldable pub chipVerdict : ℕ
-  unfolding causes tableVerdict eventList hasRecord saidOr recordingOf contents count least flagged inserted newEvents fenced after follows keptOr newMode newFlag controlled fromExclusive fromCasdep newLink translated
+  unfolding evaluated tableVerdict eventList hasRecord saidOr recordingOf contents count least flagged inserted newEvents fenced after follows keptOr newMode newFlag controlled fromExclusive fromCasdep newLink translated
   chipVerdict = tableVerdict (eventList (translated (contents f) .events) (translated (contents f) .locations)) (recordingOf (translated (contents f))) ARMv8
 
--- The test of a row: its file loads, is of kind 1, and the two verdicts are the row's.
+-- The test of a row: its file loads, is a source file, and the two verdicts are the row's.
 unfoldable pub passes : Row → Bool
-unfolding orAll causes sourceVerdict chipVerdict
+unfolding first evaluated sourceVerdict chipVerdict
 passes row =
-    (not (orAll (causes (row .bytes))) && eqb (kind (row .bytes)) 1)
+    (eqb (first (evaluated (row .bytes))) 0 && side (row .bytes))
     && (eqb (sourceVerdict (row .bytes)) (row .source) && eqb (chipVerdict (row .bytes)) (row .chip))
 
 -- A row that passes holds.
@@ -92,25 +92,19 @@ pub passes-holds : (row : Row) → passes row ≡ true → Holds row
 unfolding passes immVerdict armv8Verdict
 passes-holds row p =
     let f = row .bytes in
-    let loading = not (orAll (causes f)) && eqb (kind f) 1 in
-    let first = eqb (sourceVerdict f) (row .source) in
-    let second = eqb (chipVerdict f) (row .chip) in
-    let l = and-left loading (first && second) p in
-    let v = and-right loading (first && second) p in
-    let loads : refusal f ≡ 0 = passes-loads f (not-true (orAll (causes f)) (and-left (not (orAll (causes f))) (eqb (kind f) 1) l)) in
-    let source : kind f ≡ 1 = eqb-true (kind f) 1 (and-right (not (orAll (causes f))) (eqb (kind f) 1) l) in
-    let s : Source f = record { loads = loads; source = source } in
-    let loaded : LoadsAs 1 f = record { loads = loads; kind-is = source } in
+    let passed = eqb (first (evaluated f)) 0 in
+    let source = eqb (sourceVerdict f) (row .source) in
+    let chip = eqb (chipVerdict f) (row .chip) in
+    let l = and-left (passed && side f) (source && chip) p in
+    let v = and-right (passed && side f) (source && chip) p in
+    let loads : refusal f ≡ 0 = passes-loads f (eqb-true (first (evaluated f)) 0 (and-left passed (side f) l)) in
+    let loaded : Source f = record { loads = loads; side-is = and-right passed (side f) l } in
     record {
       loads = loaded;
-      source = verdict-computed f (contents f) (source-bytes f s) loads IMM ∙ eqb-true (sourceVerdict f) (row .source) (and-left first second v);
-      chip = verdict-computed (translation f) (translated (contents f)) (chip-bytes f s) (soundness f loaded .translation-loads .loads) ARMv8
-          ∙ eqb-true (chipVerdict f) (row .chip) (and-right first second v);
+      source = verdict-computed f (contents f) (source-bytes f loaded) loads IMM ∙ eqb-true (sourceVerdict f) (row .source) (and-left source chip v);
+      chip = verdict-computed (translation f) (translated (contents f)) (chip-bytes f loaded) (soundness f loaded .translation-loads .loads) ARMv8
+          ∙ eqb-true (chipVerdict f) (row .chip) (and-right source chip v);
     }
-  where
-    not-true : (b : Bool) → not b ≡ true → b ≡ false
-    not-true true q = absurd (false≢true q)
-    not-true false q = refl
 
 -- Every row passes.
 unfoldable pub allPass : List Row → Bool
@@ -122,9 +116,9 @@ unfolding allPass
 passes-at row (x ∷ rows) p (List·Memᴰ·head e) = ap passes e ∙ and-left (passes x) (allPass rows) p
 passes-at row (x ∷ rows) p (List·Memᴰ·tail m) = passes-at row rows (and-right (passes x) (allPass rows) p) m
 
-evaluated : allPass table ≡ true
+all-pass : allPass table ≡ true
 unfolding allPass passes table empty messagePassing releaseAcquire loadBuffering loadBufferingData storeBuffering storeBufferingFences independentReads twoPairs newerBeforeOlder normalPair strongPair
-evaluated = refl
+all-pass = refl
 
 pub twelve-rows : length table ≡ 12
 unfolding table
@@ -132,4 +126,4 @@ twelve-rows = refl
 
 -- The theorem.
 pub litmus : Litmus
-litmus row m = passes-holds row (passes-at row table evaluated m)
+litmus row m = passes-holds row (passes-at row table all-pass m)

@@ -3,8 +3,10 @@
 use mathlib.Core.Path.{_≡_}
 use mathlib.Core.List.{List, [], _∷_, List·Memᴰ}
 use Prim.Native.Nat.{ℕ}
-use Rattle.translation.specs.TranslationAnswer.{translation}
-use Rattle.soundness.specs.Soundness.{LoadsAs, immVerdict, armv8Verdict}
+use Rattle.translation.specs.Translation.{translation}
+use Rattle.layout.specs.Layout.{source}
+use Rattle.recording.specs.Load.{LoadsAs}
+use Rattle.soundness.specs.Soundness.{immVerdict, armv8Verdict}
 
 -- The bytes of a source file; the verdict on it under IMM, and on its translation under ARMv8: 0 allowed, else the number of the broken rule.
 pub record Row : Type 0 where
@@ -13,7 +15,7 @@ pub record Row : Type 0 where
   pub chip : ℕ
 
 pub record Holds (row : Row) : Type 0 where
-  pub loads : LoadsAs 1 (row .bytes)
+  pub loads : LoadsAs source (row .bytes)
   pub source : immVerdict (row .bytes) ≡ row .source
   pub chip : armv8Verdict (translation (row .bytes)) ≡ row .chip
 

@@ -48,7 +48,7 @@ same-test false false f g = refl
 
 judged : {E : Type 0} (M : Model) (G : Graph E) (b₁ b₂ b₃ b₄ b₅ : Bool)
     → Refutes b₁ (Rule1 G) → Refutes b₂ (Rule2 G) → Refutes b₃ (Rule3 M G) → Refutes b₄ (Rule4 G) → Refutes b₅ (Rule5 M G)
-    → Verdict M G (first 1 (b₁ ∷ b₂ ∷ b₃ ∷ b₄ ∷ b₅ ∷ []))
+    → Verdict M G (first ((1, b₁) ∷ (2, b₂) ∷ (3, b₃) ∷ (4, b₄) ∷ (5, b₅) ∷ []))
 unfolding first
 judged M G true b₂ b₃ b₄ b₅ r₁ r₂ r₃ r₄ r₅ = broken1 (r₁ .0 tt)
 judged M G false true b₃ b₄ b₅ r₁ r₂ r₃ r₄ r₅ = broken2 (r₁ .1 (λ h. h)) (r₂ .0 tt)
@@ -311,4 +311,4 @@ module _ (es fs : List ℕ) (r : Recording ℕ) (v : Within es r) (w : Within fs
       let p₃ = same-test _ _ (refutes-loop es _ _ f (M .coherent)) (refutes-loop fs _ _ g (M .coherent)) in
       let p₄ = same-test _ _ (refutes-4 es _ _ f) (refutes-4 fs _ _ g) in
       let p₅ = same-test _ _ (refutes-loop es _ _ f (M .order ⁺)) (refutes-loop fs _ _ g (M .order ⁺)) in
-      λ i. first 1 (p₁ i ∷ p₂ i ∷ p₃ i ∷ p₄ i ∷ p₅ i ∷ [])
+      λ i. first ((1, p₁ i) ∷ (2, p₂ i) ∷ (3, p₃ i) ∷ (4, p₄ i) ∷ (5, p₅ i) ∷ [])

@@ -9,7 +9,7 @@ use Rattle.relation.specs.Rel.{Set, Rel, union, intersection, difference, eithe
 use Rattle.models.specs.Recording.{Recording, event, ofClass, ofMode, flagged, acquireFence, releaseFence, access, sameLocation, coStep, R, W, member}
 use Rattle.models.specs.Graph.{Execution, Base, base}
 use Rattle.models.specs.Term.{Term, loc, po, rf, co, rmw, «data», addr, ctrl, casdep, ⟨_⟩, ⟨codom_⟩, _⨾_, _∪_, _∩_, _∖_, opt, _⁻¹, _⁺, eval}
-use Rattle.models.specs.Rules.{Model, broken-pair, first, unread, unordered, anywhere, failures, verdict}
+use Rattle.models.specs.Rules.{Model, broken-pair, Numbered, first, unread, unordered, anywhere, failures, verdict}
 
 abbrev pub Row : Type 0
 Row = List Bool
@@ -288,13 +288,13 @@ unfoldable pub unorderedTable : List ℕ → Tables → Table
 unorderedTable es X =
     zip (λ a b. a && not b) (zip _&&_ (cross (X .set W) (X .set W)) (X .loc)) (zip _||_ (zip _||_ (map (λ e. map (eqb e) es) es) (X .co)) (turned es (X .co)))
 
-unfoldable pub failuresTable : List ℕ → Tables → Model → List Bool
+unfoldable pub failuresTable : List ℕ → Tables → Model → List Numbered
 failuresTable es X M =
-    orAll (unreadRow es X)
-    ∷ orTable (unorderedTable es X)
-    ∷ orAll (loops es (evalTable es (M .coherent) X))
-    ∷ orTable (evalTable es broken-pair X)
-    ∷ orAll (loops es (evalTable es (M .order ⁺) X))
+    (1, orAll (unreadRow es X))
+    ∷ (2, orTable (unorderedTable es X))
+    ∷ (3, orAll (loops es (evalTable es (M .coherent) X)))
+    ∷ (4, orTable (evalTable es broken-pair X))
+    ∷ (5, orAll (loops es (evalTable es (M .order ⁺) X)))
     ∷ []
 
 unread-row : (es : List ℕ) (B : Base) → orAll (unreadRow es (tabulated es B)) ≡ some es (unread es B)
@@ -317,14 +317,14 @@ failures-table es B M =
     let p₃ = ap (λ t. orAll (loops es t)) (eval-table es B (M .coherent)) ∙ loops-some es (eval es (M .coherent) B) in
     let p₄ = ap orTable (eval-table es B broken-pair) ∙ or-table es (eval es broken-pair B) in
     let p₅ = ap (λ t. orAll (loops es t)) (eval-table es B (M .order ⁺)) ∙ loops-some es (eval es (M .order ⁺) B) in
-    λ i. p₁ i ∷ p₂ i ∷ p₃ i ∷ p₄ i ∷ p₅ i ∷ []
+    λ i. (1, p₁ i) ∷ (2, p₂ i) ∷ (3, p₃ i) ∷ (4, p₄ i) ∷ (5, p₅ i) ∷ []
 
 -- The verdict by tables.
 -- To unfold it is to unfold all that it computes with: `unfolding tableVerdict` lets it be evaluated by `refl`.
 unfoldable pub tableVerdict : List ℕ → Recording ℕ → Model → ℕ
 unfolding zipWith event ofClass ofMode flagged acquireFence releaseFence access sameLocation coStep first zip blank picked times turned entry round rounds ones orAll cross codomain loops orTable unreadRow unorderedTable evalTable tables failuresTable
-tableVerdict es r M = first 1 (failuresTable es (tables es r) M)
+tableVerdict es r M = first (failuresTable es (tables es r) M)
 
 pub table-verdict : (es : List ℕ) (r : Recording ℕ) (M : Model) → verdict es (base es r) M ≡ tableVerdict es r M
 unfolding verdict tableVerdict
-table-verdict es r M = sym (ap (λ X. first 1 (failuresTable es X M)) (tables-are es r) ∙ ap (first 1) (failures-table es (base es r) M))
+table-verdict es r M = sym (ap (λ X. first (failuresTable es X M)) (tables-are es r) ∙ ap first (failures-table es (base es r) M))

@@ -2,6 +2,7 @@
 pub mod Closure
 pub mod Tests
 pub mod MemberLaws
+pub mod FirstLaws
 pub mod Agree
 pub mod EvalTable
 pub mod Formed

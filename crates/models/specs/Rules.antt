@@ -3,7 +3,7 @@
 use mathlib.Core.Bool.{Bool, true, false, not, _&&_, _||_}
 use mathlib.Core.List.{List, [], _∷_}
 use mathlib.Core.Logic.{_⊎_, _≢_}
-use Prim.Native.Nat.{ℕ, suc}
+use Prim.Native.Nat.{ℕ}
 use lib.Dec.{eqb}
 use Rattle.relation.specs.Rel.{Set, Rel, some, diagonal}
 use Rattle.models.specs.Recording.{R, W}
@@ -68,11 +68,15 @@ module _ {E : Type 0} (M : Model) (G : Graph E) where
     broken4 : Rule1 G → Rule2 G → Rule3 → ¬ Rule4 G → Verdict 4
     broken5 : Rule1 G → Rule2 G → Rule3 → Rule4 G → ¬ Rule5 → Verdict 5
 
--- The place of the first test that passes, counted from n, and 0 where none does.
-unfoldable pub first : ℕ → List Bool → ℕ
-first n [] = 0
-first n (true ∷ bs) = n
-first n (false ∷ bs) = first (suc n) bs
+-- A test with its number.
+abbrev pub Numbered : Type 0
+Numbered = ℕ × Bool
+
+-- The number of the first test that passes, and 0 where none does.
+unfoldable pub first : List Numbered → ℕ
+first [] = 0
+first ((n, true) ∷ ts) = n
+first ((n, false) ∷ ts) = first ts
 
 -- r holds between two events of the list.
 unfoldable pub anywhere : List ℕ → Rel → Bool
@@ -88,16 +92,16 @@ module _ (es : List ℕ) (B : Base) where
   unfoldable pub unordered : Rel
   unordered a b = (B .set W a && B .set W b && B .loc a b) && not (eqb a b || B .co a b || B .co b a)
 
-  -- What each rule forbids, in order.
-  unfoldable pub failures : Model → List Bool
+  -- What each rule forbids, by its number.
+  unfoldable pub failures : Model → List Numbered
   failures M =
-      some es unread
-      ∷ anywhere es unordered
-      ∷ some es (diagonal (eval es (M .coherent) B))
-      ∷ anywhere es (eval es broken-pair B)
-      ∷ some es (diagonal (eval es (M .order ⁺) B))
+      (1, some es unread)
+      ∷ (2, anywhere es unordered)
+      ∷ (3, some es (diagonal (eval es (M .coherent) B)))
+      ∷ (4, anywhere es (eval es broken-pair B))
+      ∷ (5, some es (diagonal (eval es (M .order ⁺) B)))
       ∷ []
 
   -- The number of the first broken rule, and 0 where none is broken.
   unfoldable pub verdict : Model → ℕ
-  verdict M = first 1 (failures M)
+  verdict M = first (failures M)

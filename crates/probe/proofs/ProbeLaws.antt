@@ -7,7 +7,9 @@ use lib.ListN.{length, length-append}
 use lib.Seq.{length-take-le}
 use Rattle.models.specs.Graph.{Base}
 use Rattle.models.specs.Rules.{Model}
+use Rattle.layout.specs.Layout.{Side}
 use Rattle.recording.specs.Load.{causeFor}
+use Rattle.recording.proofs.CauseLaws.{cause-goes-on}
 use Rattle.verdict.specs.declared.Verdict.{Verdict}
 use Rattle.execution.specs.OnFile.{OnFile}
 use Rattle.lines.specs.declared.Text.{Text}
@@ -26,12 +28,12 @@ pub stored : (k rule : ℕ) (text out : List ℕ) (filled : Filled) (r : ℕ) (l
 stored k rule text out filled r left w a = record { answer = a ∙ ap (codedAnswer rule) (w .answer); output = w .output }
 
 -- A verdict on a file shows at most 64 events.
-pub few-shown : (k : ℕ) (M : Model) (Judged : Base → Verdict → Type 0) (f : List ℕ) (v : Verdict) → ((B : Base) → Judged B v → v .len ≤ 64)
-    → OnFile k M Judged f v → v .len ≤ 64
-few-shown k M Judged f v bound on = go (causeFor k f) refl
+pub few-shown : (s : Side) (M : Model) (Judged : Base → Verdict → Type 0) (f : List ℕ) (v : Verdict) → ((B : Base) → Judged B v → v .len ≤ 64)
+    → OnFile s M Judged f v → v .len ≤ 64
+few-shown s M Judged f v bound on = go (causeFor s f) refl
   where
-    go : (n : ℕ) → causeFor k f ≡ n → v .len ≤ 64
-    go zero e = bound _ (on .judged e .shown)
+    go : (n : ℕ) → causeFor s f ≡ n → v .len ≤ 64
+    go zero e = bound _ (on .judged (cause-goes-on s f e) .shown)
     go (suc n) e = omega (arith, on .refused n e .1)
 
 -- An output that something was put into is as long as before.

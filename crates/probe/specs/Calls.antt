@@ -5,6 +5,7 @@ use Prim.Native.Nat.{ℕ, _+_, _*_}
 use lib.ListN.{length}
 use Rattle.models.specs.Graph.{Base}
 use Rattle.models.specs.Rules.{Model}
+use Rattle.layout.specs.Layout.{Side}
 use Rattle.verdict.specs.declared.Verdict.{Verdict}
 use Rattle.verdict.specs.Answer.{refusalOf, ruleOf}
 use Rattle.verdict.specs.Shown.{events}
@@ -34,10 +35,10 @@ pub record Stored (k rule : ℕ) (bytes out : List ℕ) (r : ℕ) (left : List �
 abbrev pub Reported : Verdict → List ℕ → ℕ → List ℕ → Type 0
 Reported v out r left = Stored (refusalOf (v .answer)) (ruleOf (v .answer)) (events v) out r left
 
--- The verdict of the model M on the file f, of kind k, goes to the output.
-pub record Reports (k : ℕ) (M : Model) (Judged : Base → Verdict → Type 0) (f out : List ℕ) (r : ℕ) (left : List ℕ) : Type 0 where
+-- The verdict of the model M, whose files are of side s, on the file f goes to the output.
+pub record Reports (s : Side) (M : Model) (Judged : Base → Verdict → Type 0) (f out : List ℕ) (r : ℕ) (left : List ℕ) : Type 0 where
   pub verdict : Verdict
-  pub on-file : OnFile k M Judged f verdict
+  pub on-file : OnFile s M Judged f verdict
   pub reported : Reported verdict out r left
 
 -- What the judge prints of the file f goes to the output.

@@ -8,6 +8,7 @@ use verdict::Verdict;
 ghost use mathlib.Core.Path.{_≡_};
 ghost use mathlib.Core.List.{[], _∷_};
 ghost use Prim.Native.Nat.{ℕ, _≤_};
+ghost use Rattle.layout.specs.Layout.{source, chip};
 ghost use Rattle.recording.specs.Causes.{refusal};
 ghost use Rattle.recording.specs.Load.{causeFor};
 ghost use Rattle.models.specs.Rules.{IMM, ARMv8};
@@ -15,7 +16,7 @@ ghost use Rattle.imm.specs.Judged as imm;
 ghost use Rattle.armv8.specs.Judged as armv8;
 ghost use Rattle.verdict.specs.Answer.{refusalOf, ruleOf};
 ghost use Rattle.output.specs.declared.Filled.the-variants.{Written};
-ghost use Rattle.translation.specs.TranslationAnswer.{translation};
+ghost use Rattle.translation.specs.Translation.{translation};
 ghost use Rattle.probe.specs.Calls.{coded, codedAnswer, Stored, Reported, Reports, Printed};
 
 // An answer: the number of the refusal, that of the broken rule, and how many bytes were written.
@@ -75,7 +76,7 @@ fn reported(v: Verdict, out: &mut [u8]) -> u64
 // the output stays as it was.
 #[no_mangle]
 pub extern "C" fn probe_imm(file: &[u8], out: &mut [u8]) -> u64
-    ensures { λ r. ⌜ Reports 1 IMM imm.Judged (now (file .entry)) (now (out .entry)) r (now (out .exit)) ⌝ }
+    ensures { λ r. ⌜ Reports source IMM imm.Judged (now (file .entry)) (now (out .entry)) r (now (out .exit)) ⌝ }
 {
     reported(imm::file::verdict(file), out)
 }
@@ -84,7 +85,7 @@ pub extern "C" fn probe_imm(file: &[u8], out: &mut [u8]) -> u64
 // the output stays as it was.
 #[no_mangle]
 pub extern "C" fn probe_armv8(file: &[u8], out: &mut [u8]) -> u64
-    ensures { λ r. ⌜ Reports 2 ARMv8 armv8.Judged (now (file .entry)) (now (out .entry)) r (now (out .exit)) ⌝ }
+    ensures { λ r. ⌜ Reports chip ARMv8 armv8.Judged (now (file .entry)) (now (out .entry)) r (now (out .exit)) ⌝ }
 {
     reported(armv8::file::verdict(file), out)
 }
@@ -93,7 +94,7 @@ pub extern "C" fn probe_armv8(file: &[u8], out: &mut [u8]) -> u64
 // stays as it was.
 #[no_mangle]
 pub extern "C" fn probe_translate(file: &[u8], out: &mut [u8]) -> u64
-    ensures { λ r. ⌜ Stored (causeFor 1 (now (file .entry))) 0 (translation (now (file .entry))) (now (out .entry)) r (now (out .exit)) ⌝ }
+    ensures { λ r. ⌜ Stored (causeFor source (now (file .entry))) 0 (translation (now (file .entry))) (now (out .entry)) r (now (out .exit)) ⌝ }
 {
     answered(0, translation::translate(file, out))
 }

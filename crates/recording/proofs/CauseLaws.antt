@@ -1,44 +1,32 @@
 -- Laws of the causes of refusal.
 use mathlib.Core.Path.{_≡_, refl, sym, ap, ap₂, subst, _∙_}
-use mathlib.Core.Bool.{Bool, true, false, not, _&&_, _||_, false≢true}
-use mathlib.Core.List.{List, [], _∷_}
+use mathlib.Core.Bool.{Bool, true, false, not, _&&_, _||_, Bool·beq, false≢true}
+use mathlib.Core.List.{List, [], _∷_, _++_}
 use Prim.Native.Nat.{ℕ, zero, suc, _+_, _-_, _*_, _<_, _≤_}
 use native.Mathlib.Omega.{arith}
 use native.Mathlib.Decide.{ℕ-discrete, decLt}
-use borrow.Author.Tests.{eq-eqb, ne-eqb, eqb-true, lt-ltb, le-ltb, ltb-false, not-false}
+use borrow.Author.Tests.{eq-eqb, ne-eqb, lt-ltb, le-ltb, ltb-false, not-false}
 use lib.Dec.{eqb, leb, ltb}
 use lib.ListN.{length}
 use Rattle.relation.specs.Rel.{Set, single, difference, inverse, some, least, nodes}
-use Rattle.relation.proofs.Meaning.{some-least, and-left, and-right, and-both, some-sound, some-complete, mem-below, below-mem}
+use Rattle.relation.proofs.Meaning.{some-least, and-left, and-right, and-both, or-none, some-sound, some-complete, mem-below, below-mem}
 use Rattle.relation.proofs.SetLaws.{least-is, least-lt}
 use Rattle.models.specs.Recording.{Recording, event, ofClass, flagged}
 use Rattle.models.specs.Graph.{base}
 use Rattle.models.specs.Rules.{first}
-use Rattle.layout.specs.Layout.{kind, events, locations, links, linkByte, isSource, kindKnown, mostEvents, mostLinks, fullLength, Sized}
-use Rattle.layout.specs.Chains.{each, among, chain, met, fresh, pushed, onceEach, nextOf, startOf, nextLink, firstLink, linksInto, linksSound, allOf}
+use Rattle.models.proofs.FirstLaws.{positive, first-stops, first-goes-on, first-front}
+use Rattle.layout.specs.Layout.{Side, side, events, locations, links, linkByte, mostEvents, mostLinks, fullLength, Sized}
+use Rattle.layout.specs.Chains.{among, chain, met, fresh, pushed, onceEach, nextOf, startOf, nextLink, firstLink, linksInto, linksSound, allOf}
 use Rattle.layout.specs.Decode.{decode}
 use Rattle.reading.specs.Readable.{within, readable, Chained, Readable}
-use Rattle.recording.specs.Causes.{rfLegal, coLegal, rmwLegal, fromRead, dataLegal, addrLegal, ctrlLegal, casdepLegal, linkLegal, linkSound, oneSource, linksSoundAt, pairedAt, headerOver, eventLegal, tooShort, kindUnknown, overLimit, wrongLength, badEvent, badThreads, badChains, badLink, coRing, unpaired, headerCauses, bodyCauses, refusal}
-use Rattle.recording.specs.Load.{headerOf, answer, loadOf, numberOf, causeFor}
+use Rattle.recording.specs.Causes.{rfLegal, coLegal, rmwLegal, fromRead, dataLegal, addrLegal, ctrlLegal, casdepLegal, linkLegal, linkSound, oneSource, linksSoundAt, pairedAt, headerOver, overLimit, badThreads, badChains, badLink, headerCauses, recordCauses, linkCauses, causes, refusal}
+use Rattle.recording.specs.Load.{headerOf, answer, loadOf, numberOf, LoadsAs, otherSide, causeFor}
 use Rattle.recording.specs.declared.Header.{Header}
 use Rattle.recording.specs.declared.Load.{Load}
 use Rattle.recording.specs.declared.Load.the-variants.{Refused, Loaded}
 use Rattle.relation.proofs.Truth.{is-false, same-test}
-use Rattle.layout.proofs.FieldLaws.{event-small, class-event}
+use Rattle.layout.proofs.FieldLaws.{event-small, class-event, most-events-48}
 use Rattle.layout.proofs.ChainLaws.{fresh-append, each-at}
-
--- The first cause that applies.
-pub first-here : (n : ℕ) (b : Bool) (bs : List Bool) → b ≡ true → n ≡ first n (b ∷ bs)
-unfolding first
-first-here n b bs p = rw p
-
-pub first-skip : (n x : ℕ) (b : Bool) (bs : List Bool) → b ≡ false → x ≡ first (suc n) bs → x ≡ first n (b ∷ bs)
-unfolding first
-first-skip n x b bs p e = e ∙ ap (λ (c : Bool). first n (c ∷ bs)) (sym p)
-
-pub first-none : (n : ℕ) → 0 ≡ first n []
-unfolding first
-first-none n = refl
 
 -- One rf source: what is left without the least source is empty.
 pub alone : (r : Recording ℕ) (b : ℕ) (s : Set) → s ≡ inverse (r .link 1) b → 64 ≤ least 64 s → true ≡ oneSource r b
@@ -117,17 +105,17 @@ from-read-event : (r : Recording ℕ) (a b : ℕ) → fromRead r a b ≡ true �
 unfolding fromRead
 from-read-event r a b p = class-event r 1 a (and-left (ofClass r 1 a) (base nodes r .po a b) p)
 
-pub source-event : (r : Recording ℕ) (k t a b : ℕ) → linkLegal r k t a b ≡ true → event r a ≡ true
+pub source-event : (r : Recording ℕ) (s : Side) (t a b : ℕ) → linkLegal r s t a b ≡ true → event r a ≡ true
 unfolding linkLegal rfLegal coLegal rmwLegal dataLegal addrLegal ctrlLegal casdepLegal flagged
-source-event r k zero a b p = absurd (false≢true p)
-source-event r k (suc zero) a b p = class-event r 2 a (and-left _ _ (and-left (ofClass r 2 a && ofClass r 1 b) _ p))
-source-event r k (suc (suc zero)) a b p = class-event r 2 a (and-left _ _ (and-left (ofClass r 2 a && ofClass r 2 b) _ p))
-source-event r k (suc (suc (suc zero))) a b p = class-event r 1 a (and-left (ofClass r 1 a) _ (and-left (flagged r 1 a) _ (and-left (flagged r 1 a && ofClass r 2 b) _ p)))
-source-event r k (suc (suc (suc (suc zero)))) a b p = from-read-event r a b (and-left (fromRead r a b) _ p)
-source-event r k (suc (suc (suc (suc (suc zero))))) a b p = from-read-event r a b (and-left (fromRead r a b) _ p)
-source-event r k (suc (suc (suc (suc (suc (suc zero)))))) a b p = from-read-event r a b p
-source-event r k (suc (suc (suc (suc (suc (suc (suc zero))))))) a b p = from-read-event r a b (and-left (fromRead r a b) _ p)
-source-event r k (suc (suc (suc (suc (suc (suc (suc (suc n)))))))) a b p = absurd (false≢true p)
+source-event r s zero a b p = absurd (false≢true p)
+source-event r s (suc zero) a b p = class-event r 2 a (and-left _ _ (and-left (ofClass r 2 a && ofClass r 1 b) _ p))
+source-event r s (suc (suc zero)) a b p = class-event r 2 a (and-left _ _ (and-left (ofClass r 2 a && ofClass r 2 b) _ p))
+source-event r s (suc (suc (suc zero))) a b p = class-event r 1 a (and-left (ofClass r 1 a) _ (and-left (flagged r 1 a) _ (and-left (flagged r 1 a && ofClass r 2 b) _ p)))
+source-event r s (suc (suc (suc (suc zero)))) a b p = from-read-event r a b (and-left (fromRead r a b) _ p)
+source-event r s (suc (suc (suc (suc (suc zero))))) a b p = from-read-event r a b (and-left (fromRead r a b) _ p)
+source-event r s (suc (suc (suc (suc (suc (suc zero)))))) a b p = from-read-event r a b p
+source-event r s (suc (suc (suc (suc (suc (suc (suc zero))))))) a b p = from-read-event r a b (and-left (fromRead r a b) _ p)
+source-event r s (suc (suc (suc (suc (suc (suc (suc (suc n)))))))) a b p = absurd (false≢true p)
 
 pub allOf-both : (l : List ℕ) (p q r : ℕ → Bool) → ((m : ℕ) → p m ≡ true → q m ≡ true → r m ≡ true) → allOf l p ≡ true → allOf l q ≡ true → allOf l r ≡ true
 unfolding allOf
@@ -141,8 +129,8 @@ sound-readable f b m s w p =
     and-both (within f m) (ltb (linkByte f m 2) 64) w
     (lt-ltb (linkByte f m 2) 64
     (event-small f (linkByte f m 2) s
-    (source-event (decode f) (kind f) (linkByte f m 1) (linkByte f m 2) b
-    (and-left (linkLegal (decode f) (kind f) (linkByte f m 1) (linkByte f m 2) b) (eqb (linkByte f m 3) 0) p))))
+    (source-event (decode f) (side f) (linkByte f m 1) (linkByte f m 2) b
+    (and-left (linkLegal (decode f) (side f) (linkByte f m 1) (linkByte f m 2) b) (eqb (linkByte f m 3) 0) p))))
 
 -- Sound chains stay within their limit.
 fresh-within : (limit : ℕ) (seen l : List ℕ) → fresh limit seen l ≡ true → allOf l (λ m. leb m limit) ≡ true
@@ -193,67 +181,30 @@ unfolding pairedAt
 paired-yes f e x s p q l = ap (λ (y : ℕ). ltb y 64) l ∙ some-least s ∙ ap (some nodes) q ∙ sym (ap (λ (b : Bool). not b || some nodes (inverse (decode f .link 3) e)) p)
 
 -- The limits.
-pub over-events : (k n l m x : ℕ) → x ≡ mostEvents k → x < n → true ≡ headerOver k n l m
+pub over-events : (s : Side) (n l m x : ℕ) → x ≡ mostEvents s → x < n → true ≡ headerOver s n l m
 unfolding headerOver
-over-events k n l m x e h = rw (lt-ltb (mostEvents k) n (omega arith))
+over-events s n l m x e h = rw (lt-ltb (mostEvents s) n (omega arith))
 
-pub over-locations : (k n l m x : ℕ) → x ≡ mostEvents k → n ≤ x → 8 < l → true ≡ headerOver k n l m
+pub over-locations : (s : Side) (n l m x : ℕ) → x ≡ mostEvents s → n ≤ x → 8 < l → true ≡ headerOver s n l m
 unfolding headerOver
-over-locations k n l m x e h g = rw (le-ltb (mostEvents k) n (omega arith), lt-ltb 8 l g)
+over-locations s n l m x e h g = rw (le-ltb (mostEvents s) n (omega arith), lt-ltb 8 l g)
 
-pub over-links : (k n l m x y : ℕ) → x ≡ mostEvents k → n ≤ x → l ≤ 8 → y ≡ mostLinks k → ltb y m ≡ headerOver k n l m
+pub over-links : (s : Side) (n l m x y : ℕ) → x ≡ mostEvents s → n ≤ x → l ≤ 8 → y ≡ mostLinks s → ltb y m ≡ headerOver s n l m
 unfolding headerOver
-over-links k n l m x y e h g q = ap (λ (z : ℕ). ltb z m) q ∙ sym (rw (le-ltb (mostEvents k) n (omega arith), le-ltb 8 l g))
+over-links s n l m x y e h g q = ap (λ (z : ℕ). ltb z m) q ∙ sym (rw (le-ltb (mostEvents s) n (omega arith), le-ltb 8 l g))
 
-most-events-bound : (k : ℕ) → mostEvents k ≤ 48
-unfolding mostEvents
-most-events-bound k = go (isSource k)
-  where
-    go : (b : Bool) → elim b [ true ↦ 32 | false ↦ 48 ] ≤ 48
-    go true = omega arith
-    go false = omega arith
+-- What cause 3 leaves.
+pub limits : (f : List ℕ) → overLimit f ≡ false → (events f ≤ mostEvents (side f)) × (locations f ≤ 8) × (links f ≤ mostLinks (side f))
+unfolding overLimit headerOver
+limits f e =
+    let p = or-none (ltb (mostEvents (side f)) (events f)) _ e in
+    let q = or-none (ltb 8 (locations f)) (ltb (mostLinks (side f)) (links f)) (p .1) in
+    (ltb-false _ _ (p .0), ltb-false _ _ (q .0), ltb-false _ _ (q .1))
 
-or-none : (a b : Bool) → a || b ≡ false → (a ≡ false) × (b ≡ false)
-or-none true b p = absurd (false≢true (sym p))
-or-none false b p = (refl, p)
-
--- Causes 1 to 4, and what they leave.
-module _ (f : List ℕ) where
-  pub header-1 : length f < 8 → 1 ≡ first 1 (headerCauses f)
-  unfolding headerCauses tooShort
-  header-1 h = first-here 1 _ _ (lt-ltb (length f) 8 h)
-
-  pub header-2 : 8 ≤ length f → kindKnown (kind f) ≡ false → 2 ≡ first 1 (headerCauses f)
-  unfolding headerCauses tooShort kindUnknown
-  header-2 h p = first-skip 1 2 _ _ (le-ltb (length f) 8 h) (first-here 2 _ _ (ap not p))
-
-  pub header-3 : 8 ≤ length f → kindKnown (kind f) ≡ true → headerOver (kind f) (events f) (locations f) (links f) ≡ true → 3 ≡ first 1 (headerCauses f)
-  unfolding headerCauses tooShort kindUnknown overLimit
-  header-3 h p q = first-skip 1 3 _ _ (le-ltb (length f) 8 h) (first-skip 2 3 _ _ (ap not p) (first-here 3 _ _ q))
-
-  module _ (h : 8 ≤ length f) (p : kindKnown (kind f) ≡ true) (q : headerOver (kind f) (events f) (locations f) (links f) ≡ false) where
-    pub header-4 : (length f ≡ fullLength f → ⊥) → 4 ≡ first 1 (headerCauses f)
-    unfolding headerCauses tooShort kindUnknown overLimit wrongLength
-    header-4 d =
-        first-skip 1 4 _ _ (le-ltb (length f) 8 h) (first-skip 2 4 _ _ (ap not p) (first-skip 3 4 _ _ q
-        (first-here 4 _ _ (ap not (ne-eqb (length f) (fullLength f) d)))))
-
-    pub header-0 : length f ≡ fullLength f → 0 ≡ first 1 (headerCauses f)
-    unfolding headerCauses tooShort kindUnknown overLimit wrongLength
-    header-0 e =
-        first-skip 1 0 _ _ (le-ltb (length f) 8 h) (first-skip 2 0 _ _ (ap not p) (first-skip 3 0 _ _ q
-        (first-skip 4 0 _ _ (ap not (eq-eqb (length f) (fullLength f) e)) (first-none 5))))
-
-    pub header-sized : length f ≡ fullLength f → Sized f
-    unfolding headerOver
-    header-sized e =
-        let both = or-none (ltb (mostEvents (kind f)) (events f)) (ltb 8 (locations f) || ltb (mostLinks (kind f)) (links f)) q in
-        let rest = or-none (ltb 8 (locations f)) (ltb (mostLinks (kind f)) (links f)) (both .1) in
-        record {
-          long = e;
-          most-events = omega (arith, ltb-false (mostEvents (kind f)) (events f) (both .0), most-events-bound (kind f));
-          most-locations = ltb-false 8 (locations f) (rest .0);
-        }
+pub sized-of : (f : List ℕ) → overLimit f ≡ false → length f ≡ fullLength f → Sized f
+sized-of f e long =
+    let w = limits f e in
+    record { long = long; most-events = omega (arith, w .0, most-events-48 (side f)); most-locations = w .1 }
 
 -- Causes 6 and 7, with the counts read from the header.
 pub threads-are : (f : List ℕ) (n : ℕ) (b : Bool) → n ≡ events f → b ≡ onceEach n (met n (nextOf f 8 8) (startOf f 4 1) 4) → not b ≡ badThreads f
@@ -265,43 +216,18 @@ pub chains-are : (f : List ℕ) (n m : ℕ) (b : Bool) → n ≡ events f → m 
 unfolding badChains
 chains-are f n m b e q p = ap not (p ∙ ap₂ (λ (k l : ℕ). onceEach l (met l (nextOf f (8 + 8 * k) 4) (startOf f 15 8) k)) e q)
 
--- What the header read says of the file.
-pub known-of : (f : List ℕ) (h : Header) (b : Bool) → h ≡ headerOf f → b ≡ kindKnown (h .kind) → kindKnown (kind f) ≡ b
-known-of f h b e p = sym (p ∙ ap (λ (x : Header). kindKnown (x .kind)) e)
+-- The header, read number by number, and what it says of the file.
+pub header-is : (f : List ℕ) (b : Bool) → b ≡ side f → record { source = b; events = events f; locations = locations f; links = links f } ≡ headerOf f
+header-is f b e = ap (λ (x : Bool). record { source = x; events = events f; locations = locations f; links = links f }) e
 
-pub over-of : (f : List ℕ) (h : Header) (b : Bool) → h ≡ headerOf f → b ≡ headerOver (h .kind) (h .events) (h .locations) (h .links)
-    → headerOver (kind f) (events f) (locations f) (links f) ≡ b
-over-of f h b e p = sym (p ∙ ap (λ (x : Header). headerOver (x .kind) (x .events) (x .locations) (x .links)) e)
+pub over-of : (f : List ℕ) (h : Header) (b : Bool) → h ≡ headerOf f → b ≡ headerOver (h .source) (h .events) (h .locations) (h .links) → b ≡ overLimit f
+unfolding overLimit
+over-of f h b e p = p ∙ ap (λ (x : Header). headerOver (x .source) (x .events) (x .locations) (x .links)) e
 
 pub length-of : (f : List ℕ) (h : Header) → h ≡ headerOf f → 8 + 8 * (h .events) + 4 * (h .links) ≡ fullLength f
 length-of f h e = ap (λ (x : Header). 8 + 8 * (x .events) + 4 * (x .links)) e
 
--- What loading answers, from the two parts.
-first-either : (a b c d : Bool) (n : ℕ) (bs : List Bool) → n ≡ first 1 (a ∷ b ∷ c ∷ d ∷ []) → (n ≡ 0 → ⊥) → n ≡ first 1 (a ∷ b ∷ c ∷ d ∷ bs)
-unfolding first
-first-either true b c d n bs p q = p
-first-either false true c d n bs p q = p
-first-either false false true d n bs p q = p
-first-either false false false true n bs p q = p
-first-either false false false false n bs p q = absurd (q p)
-
-first-second : (a b c d : Bool) (n m : ℕ) (bs : List Bool) → n ≡ first 1 (a ∷ b ∷ c ∷ d ∷ []) → n ≡ 0 → m ≡ first 5 bs → m ≡ first 1 (a ∷ b ∷ c ∷ d ∷ bs)
-unfolding first
-first-second true b c d n m bs p q r = absurd (omega arith)
-first-second false true c d n m bs p q r = absurd (omega arith)
-first-second false false true d n m bs p q r = absurd (omega arith)
-first-second false false false true n m bs p q r = absurd (omega arith)
-first-second false false false false n m bs p q r = r
-
-module _ (f : List ℕ) (n : ℕ) (p : n ≡ first 1 (headerCauses f)) where
-  pub refused-header : (n ≡ 0 → ⊥) → n ≡ refusal f
-  unfolding refusal headerCauses
-  refused-header q = first-either _ _ _ _ n (bodyCauses f) p q
-
-  pub refused-body : n ≡ 0 → (m : ℕ) → m ≡ first 5 (bodyCauses f) → m ≡ refusal f
-  unfolding refusal headerCauses
-  refused-body q m r = first-second _ _ _ _ n m (bodyCauses f) p q r
-
+-- What loading answers.
 pub load-refused : (f : List ℕ) (k : ℕ) → k ≡ refusal f → (k ≡ 0 → ⊥) → Refused k ≡ loadOf f
 unfolding loadOf answer
 load-refused f zero p q = absurd (q refl)
@@ -311,56 +237,27 @@ pub load-loaded : (f : List ℕ) (k : ℕ) (h : Header) → k ≡ refusal f → 
 unfolding loadOf answer
 load-loaded f k h p q e = ap Loaded e ∙ ap (λ (n : ℕ). answer n (headerOf f)) (sym q ∙ p)
 
--- Causes 5 to 10, from the tests that the code makes.
+-- A cause from the code's test of its opposite.
+pub opposite : (b c x : Bool) → b ≡ c → not b ≡ x → not c ≡ x
+opposite b c x p q = sym (ap not p) ∙ q
+
+-- The causes of one part after the other.
 module _ (f : List ℕ) where
-  pub event-cause : (b x : Bool) → b ≡ each (events f) (eventLegal f) → not b ≡ x → badEvent f ≡ x
-  unfolding badEvent
-  event-cause b x p q = sym (ap not p) ∙ q
+  pub refused-header : (n : ℕ) → n ≡ first (headerCauses f) → (n ≡ 0 → ⊥) → n ≡ refusal f
+  unfolding refusal causes
+  refused-header n = first-stops (headerCauses f) _ n
 
-  pub link-cause : (b x : Bool) → b ≡ each (events f) (linksSoundAt f) → not b ≡ x → badLink f ≡ x
-  unfolding badLink
-  link-cause b x p q = sym (ap not p) ∙ q
+  module _ (header : first (headerCauses f) ≡ 0) where
+    to-records : first (recordCauses f ++ linkCauses f) ≡ refusal f
+    unfolding refusal causes headerCauses positive
+    to-records = sym (first-goes-on (headerCauses f) _ refl header)
 
-  pub pair-cause : (b x : Bool) → b ≡ each (events f) (pairedAt f) → not b ≡ x → unpaired f ≡ x
-  unfolding unpaired
-  pair-cause b x p q = sym (ap not p) ∙ q
+    pub refused-records : (n : ℕ) → n ≡ first (recordCauses f) → (n ≡ 0 → ⊥) → n ≡ refusal f
+    refused-records n p d = first-stops (recordCauses f) _ n p d ∙ to-records
 
-  pub body-5 : badEvent f ≡ true → 5 ≡ first 5 (bodyCauses f)
-  unfolding bodyCauses
-  body-5 p = first-here 5 _ _ p
-
-  module _ (a : badEvent f ≡ false) where
-    pub legal-of : each (events f) (eventLegal f) ≡ true
-    unfolding badEvent
-    legal-of = not-false _ a
-
-    pub body-6 : badThreads f ≡ true → 6 ≡ first 5 (bodyCauses f)
-    unfolding bodyCauses
-    body-6 p = first-skip 5 6 _ _ a (first-here 6 _ _ p)
-
-    module _ (b : badThreads f ≡ false) where
-      pub body-7 : badChains f ≡ true → 7 ≡ first 5 (bodyCauses f)
-      unfolding bodyCauses
-      body-7 p = first-skip 5 7 _ _ a (first-skip 6 7 _ _ b (first-here 7 _ _ p))
-
-      module _ (c : badChains f ≡ false) where
-        pub body-8 : badLink f ≡ true → 8 ≡ first 5 (bodyCauses f)
-        unfolding bodyCauses
-        body-8 p = first-skip 5 8 _ _ a (first-skip 6 8 _ _ b (first-skip 7 8 _ _ c (first-here 8 _ _ p)))
-
-        module _ (d : badLink f ≡ false) where
-          skip-links : (n : ℕ) → n ≡ first 9 (coRing f ∷ unpaired f ∷ []) → n ≡ first 5 (bodyCauses f)
-          unfolding bodyCauses
-          skip-links n p = first-skip 5 n _ _ a (first-skip 6 n _ _ b (first-skip 7 n _ _ c (first-skip 8 n _ _ d p)))
-
-          pub body-9 : coRing f ≡ true → 9 ≡ first 5 (bodyCauses f)
-          body-9 p = skip-links 9 (first-here 9 _ _ p)
-
-          pub body-10 : coRing f ≡ false → unpaired f ≡ true → 10 ≡ first 5 (bodyCauses f)
-          body-10 e p = skip-links 10 (first-skip 9 10 _ _ e (first-here 10 _ _ p))
-
-          pub body-0 : coRing f ≡ false → unpaired f ≡ false → 0 ≡ first 5 (bodyCauses f)
-          body-0 e p = skip-links 0 (first-skip 9 0 _ _ e (first-skip 10 0 _ _ p (first-none 11)))
+    pub refused-links : first (recordCauses f) ≡ 0 → first (linkCauses f) ≡ refusal f
+    unfolding recordCauses positive
+    refused-links records = sym (first-goes-on (recordCauses f) _ refl records) ∙ to-records
 
 pub sized-8 : (f : List ℕ) → Sized f → 8 ≤ length f
 sized-8 f s = omega (arith, s .long)
@@ -380,45 +277,53 @@ pub loaded-answer : (f : List ℕ) (a : Load) (k : Header) → a ≡ loadOf f �
 unfolding loadOf
 loaded-answer f a k p q = answer-loaded (refusal f) (headerOf f) k (sym p ∙ q)
 
-cause-at : (k n : ℕ) (f : List ℕ) → refusal f ≡ n → (n ≡ 0 → ⊥) → n ≡ causeFor k f
-unfolding causeFor
-cause-at k zero f p d = absurd (d refl)
-cause-at k (suc n) f p d = rw (p, causeFor)
+-- A call goes on with a file that loads and is of its side, and with no other.
+cause-late : (s : Side) (f : List ℕ) → refusal f ≡ 0 → causeFor s f ≡ first ((11, otherSide s f) ∷ [])
+unfolding causeFor refusal causes headerCauses recordCauses linkCauses positive
+cause-late s f e = first-goes-on (causes f) _ refl e
 
-pub cause-refused : (k n x : ℕ) (f : List ℕ) (a : Load) → a ≡ loadOf f → a ≡ Refused x → n ≡ numberOf a → n ≡ causeFor k f
+pub cause-early : (s : Side) (n : ℕ) (f : List ℕ) → n ≡ refusal f → (n ≡ 0 → ⊥) → n ≡ causeFor s f
+unfolding causeFor refusal
+cause-early s n f = first-stops (causes f) _ n
+
+pub cause-refused : (s : Side) (n x : ℕ) (f : List ℕ) (a : Load) → a ≡ loadOf f → a ≡ Refused x → n ≡ numberOf a → n ≡ causeFor s f
 unfolding loadOf numberOf
-cause-refused k n x f a p q e =
+cause-refused s n x f a p q e =
     let (u, v) = answer-refused (refusal f) x (headerOf f) (sym p ∙ q) in
-    e ∙ ap numberOf q ∙ sym u ∙ cause-at k (refusal f) f refl v
+    e ∙ ap numberOf q ∙ sym u ∙ cause-early s (refusal f) f refl v
 
-pub cause-other : (k : ℕ) (f : List ℕ) (a : Load) (h : Header) → a ≡ loadOf f → a ≡ Loaded h → (h .kind ≡ k → ⊥) → 11 ≡ causeFor k f
-unfolding causeFor
-cause-other k f a h p q d =
-    let (u, v) = loaded-answer f a h p q in
-    rw (u, causeFor) (rw (ne-eqb (kind f) k (λ e. d (ap (λ (x : Header). x .kind) v ∙ e))))
+module _ (s : Side) (f : List ℕ) (a : Load) (h : Header) (p : a ≡ loadOf f) (q : a ≡ Loaded h) where
+  pub loaded-side : (h .source ≡ s) → LoadsAs s f
+  loaded-side e =
+      let (u, v) = loaded-answer f a h p q in
+      record { loads = u; side-is = sym (ap (λ (x : Header). x .source) v) ∙ e }
 
-pub cause-none : (k : ℕ) (f : List ℕ) (a : Load) (h : Header) → a ≡ loadOf f → a ≡ Loaded h → h .kind ≡ k → 0 ≡ causeFor k f
-unfolding causeFor
-cause-none k f a h p q e =
-    let (u, v) = loaded-answer f a h p q in
-    rw (u, causeFor) (rw (eq-eqb (kind f) k (sym (ap (λ (x : Header). x .kind) v) ∙ e)))
+  -- By the code's test whether the side is another.
+  pub cause-side : (b : Bool) → not (Bool·beq (h .source) s) ≡ b → first ((11, b) ∷ []) ≡ causeFor s f
+  unfolding otherSide
+  cause-side b e =
+      let (u, v) = loaded-answer f a h p q in
+      ap (λ (x : Bool). first ((11, x) ∷ [])) (sym e ∙ ap (λ (x : Header). not (Bool·beq (x .source) s)) v) ∙ sym (cause-late s f u)
 
--- A call goes on with a file that loads and is of its kind, and with no other.
-pub cause-own : (k : ℕ) (f : List ℕ) → refusal f ≡ 0 → kind f ≡ k → causeFor k f ≡ 0
-unfolding causeFor
-cause-own k f e q = rw (e, causeFor) (rw (eq-eqb (kind f) k q))
-
-pub cause-goes-on : (k : ℕ) (f : List ℕ) → causeFor k f ≡ 0 → (refusal f ≡ 0) × (kind f ≡ k)
-unfolding causeFor
-cause-goes-on k f p = by-refusal (refusal f) refl
+pub cause-own : (s : Side) (f : List ℕ) → LoadsAs s f → causeFor s f ≡ 0
+unfolding otherSide first
+cause-own s f w = cause-late s f (w .loads) ∙ rw (ap not (same s (side f) (w .side-is)))
   where
-    by-kind : refusal f ≡ 0 → (b : Bool) → eqb (kind f) k ≡ b → kind f ≡ k
-    by-kind e true q = eqb-true (kind f) k q
-    by-kind e false q = absurd (let z : 11 ≡ 0 = sym (rw (e, causeFor) (rw q)) ∙ p in omega arith)
+    same : (x y : Bool) → y ≡ x → Bool·beq y x ≡ true
+    same true y e = ap (λ (b : Bool). Bool·beq b true) e
+    same false y e = ap (λ (b : Bool). Bool·beq b false) e
 
-    by-refusal : (n : ℕ) → refusal f ≡ n → (refusal f ≡ 0) × (kind f ≡ k)
-    by-refusal zero e = (e, by-kind e (eqb (kind f) k) refl)
-    by-refusal (suc n) e = absurd (let z : suc n ≡ 0 = sym (rw (e, causeFor)) ∙ p in omega arith)
+pub cause-goes-on : (s : Side) (f : List ℕ) → causeFor s f ≡ 0 → LoadsAs s f
+unfolding causeFor refusal otherSide first
+cause-goes-on s f p =
+    let loads : refusal f ≡ 0 = first-front (causes f) _ p in
+    record { loads = loads; side-is = by-test (side f) s (sym (cause-late s f loads) ∙ p) }
+  where
+    by-test : (x y : Bool) → first ((11, not (Bool·beq x y)) ∷ []) ≡ 0 → x ≡ y
+    by-test true true e = refl
+    by-test true false e = absurd (omega (arith, e))
+    by-test false true e = absurd (omega (arith, e))
+    by-test false false e = refl
 
 -- The number of what loading answers is that of the first cause that applies.
 pub load-number : (f : List ℕ) → numberOf (loadOf f) ≡ refusal f

@@ -8,42 +8,47 @@ use native.Mathlib.Omega.{arith}
 use borrow.Author.Tests.{ltb-true, leb-true}
 use Rattle.relation.proofs.Meaning.{and-left, and-right, or-either}
 use Rattle.models.specs.Recording.{Recording, event, ofClass, access}
-use Rattle.layout.specs.Layout.{kind, events, locations, eventByte, linkByte, Sized}
+use Rattle.layout.specs.Layout.{Side, side, events, locations, eventByte, linkByte, Sized}
 use Rattle.layout.specs.Chains.{each}
 use Rattle.layout.specs.Decode.{isRecorded, isInitial, decode}
 use Rattle.reading.specs.Sets.{Located}
 use lib.Dec.{eqb, leb, ltb}
 use Rattle.layout.proofs.FieldLaws.{recorded-bounds, location-initial, class-event, class-is, next-first}
 use Rattle.layout.proofs.ChainLaws.{each-at}
-use Rattle.recording.specs.Causes.{readLegal, writeLegal, fenceLegal, legal, eventLegal, rfLegal, coLegal, rmwLegal, fromRead, dataLegal, addrLegal, ctrlLegal, casdepLegal, linkLegal}
+use Rattle.recording.specs.Causes.{readLegal, writeLegal, fenceLegal, legal, eventLegal, linkLegal}
 
-module _ (k L class mode flag location value : ℕ) (b : Bool) where
-  pub legal-read : class ≡ 1 → b ≡ readLegal mode flag && ltb location L → b ≡ legal k L class mode flag location value
+-- What is legal, by the class, and no other class.
+module _ (s : Side) (L class mode flag location value : ℕ) (x : Bool) where
+  legal-of : (k : ℕ) → class ≡ k → x ≡ legal s L k mode flag location value → x ≡ legal s L class mode flag location value
+  legal-of k e p = p ∙ ap (λ (c : ℕ). legal s L c mode flag location value) (sym e)
+
+  pub legal-read : class ≡ 1 → x ≡ readLegal mode flag && ltb location L → x ≡ legal s L class mode flag location value
   unfolding legal
-  legal-read e p = p ∙ ap (λ (x : ℕ). legal k L x mode flag location value) (sym e)
+  legal-read = legal-of 1
 
-  pub legal-write : class ≡ 2 → b ≡ writeLegal k mode flag && ltb location L → b ≡ legal k L class mode flag location value
+  pub legal-write : class ≡ 2 → x ≡ writeLegal s mode flag && ltb location L → x ≡ legal s L class mode flag location value
   unfolding legal
-  legal-write e p = p ∙ ap (λ (x : ℕ). legal k L x mode flag location value) (sym e)
+  legal-write = legal-of 2
 
-  pub legal-fence : class ≡ 3 → b ≡ fenceLegal k mode flag && (eqb location 0 && eqb value 0) → b ≡ legal k L class mode flag location value
+  pub legal-fence : class ≡ 3 → x ≡ fenceLegal s mode flag && (eqb location 0 && eqb value 0) → x ≡ legal s L class mode flag location value
   unfolding legal
-  legal-fence e p = p ∙ ap (λ (x : ℕ). legal k L x mode flag location value) (sym e)
+  legal-fence = legal-of 3
 
-pub legal-other : (k L class mode flag location value : ℕ) → (class ≡ 1 → ⊥) → (class ≡ 2 → ⊥) → (class ≡ 3 → ⊥)
-    → false ≡ legal k L class mode flag location value
+pub legal-other : (s : Side) (L class mode flag location value : ℕ) → (class ≡ 1 → ⊥) → (class ≡ 2 → ⊥) → (class ≡ 3 → ⊥)
+    → false ≡ legal s L class mode flag location value
 unfolding legal
-legal-other k L zero mode flag location value a b c = refl
-legal-other k L (suc zero) mode flag location value a b c = absurd (a refl)
-legal-other k L (suc (suc zero)) mode flag location value a b c = absurd (b refl)
-legal-other k L (suc (suc (suc zero))) mode flag location value a b c = absurd (c refl)
-legal-other k L (suc (suc (suc (suc n)))) mode flag location value a b c = refl
+legal-other s L zero mode flag location value a b c = refl
+legal-other s L (suc zero) mode flag location value a b c = absurd (a refl)
+legal-other s L (suc (suc zero)) mode flag location value a b c = absurd (b refl)
+legal-other s L (suc (suc (suc zero))) mode flag location value a b c = absurd (c refl)
+legal-other s L (suc (suc (suc (suc n)))) mode flag location value a b c = refl
 
 -- An event's numbers, read one by one.
-pub event-legal : (f : List ℕ) (e class mode flag location value : ℕ) → class ≡ decode f .class e → mode ≡ decode f .mode e → flag ≡ decode f .flag e
-    → location ≡ decode f .location e → value ≡ decode f .value e → legal (kind f) (locations f) class mode flag location value ≡ eventLegal f e
+pub event-legal : (f : List ℕ) (s : Side) (e L class mode flag location value : ℕ) → s ≡ side f → L ≡ locations f → class ≡ decode f .class e
+    → mode ≡ decode f .mode e → flag ≡ decode f .flag e → location ≡ decode f .location e → value ≡ decode f .value e
+    → legal s L class mode flag location value ≡ eventLegal f e
 unfolding eventLegal
-event-legal f e class mode flag location value a b c d v = rw (a, b, c, d, v)
+event-legal f s e L class mode flag location value i l a b c d v = rw (i, l, a, b, c, d, v)
 
 -- Whether b follows a.
 pub next-no : (f : List ℕ) (a b : ℕ) → isRecorded f a ≡ false → false ≡ decode f .next a b
@@ -58,48 +63,22 @@ pub next-yes : (f : List ℕ) (a b n : ℕ) → isRecorded f a ≡ true → isRe
 unfolding decode
 next-yes f a b n p q e = rw (p, q) (ap (λ (x : ℕ). eqb x b) (e ∙ next-first f a))
 
--- A link's condition by its type.
-module _ (r : Recording ℕ) (k t a b : ℕ) (x : Bool) where
-  pub link-rf : t ≡ 1 → x ≡ rfLegal r a b → x ≡ linkLegal r k t a b
-  unfolding linkLegal
-  link-rf e p = p ∙ ap (λ (i : ℕ). linkLegal r k i a b) (sym e)
+-- A link's conditions, by its type, and no other type.
+pub link-of : (r : Recording ℕ) (s : Side) (t a b : ℕ) (x : Bool) (k : ℕ) → t ≡ k → x ≡ linkLegal r s k a b → x ≡ linkLegal r s t a b
+link-of r s t a b x k e p = p ∙ ap (λ (i : ℕ). linkLegal r s i a b) (sym e)
 
-  pub link-co : t ≡ 2 → x ≡ coLegal r a b → x ≡ linkLegal r k t a b
-  unfolding linkLegal
-  link-co e p = p ∙ ap (λ (i : ℕ). linkLegal r k i a b) (sym e)
-
-  pub link-rmw : t ≡ 3 → x ≡ rmwLegal r a b → x ≡ linkLegal r k t a b
-  unfolding linkLegal
-  link-rmw e p = p ∙ ap (λ (i : ℕ). linkLegal r k i a b) (sym e)
-
-  pub link-data : t ≡ 4 → x ≡ dataLegal r a b → x ≡ linkLegal r k t a b
-  unfolding linkLegal
-  link-data e p = p ∙ ap (λ (i : ℕ). linkLegal r k i a b) (sym e)
-
-  pub link-addr : t ≡ 5 → x ≡ addrLegal r a b → x ≡ linkLegal r k t a b
-  unfolding linkLegal
-  link-addr e p = p ∙ ap (λ (i : ℕ). linkLegal r k i a b) (sym e)
-
-  pub link-ctrl : t ≡ 6 → x ≡ fromRead r a b → x ≡ linkLegal r k t a b
-  unfolding linkLegal ctrlLegal
-  link-ctrl e p = p ∙ ap (λ (i : ℕ). linkLegal r k i a b) (sym e)
-
-  pub link-casdep : t ≡ 7 → x ≡ casdepLegal r k a b → x ≡ linkLegal r k t a b
-  unfolding linkLegal
-  link-casdep e p = p ∙ ap (λ (i : ℕ). linkLegal r k i a b) (sym e)
-
-pub link-other : (r : Recording ℕ) (k t a b : ℕ) → (t ≡ 1 → ⊥) → (t ≡ 2 → ⊥) → (t ≡ 3 → ⊥) → (t ≡ 4 → ⊥) → (t ≡ 5 → ⊥) → (t ≡ 6 → ⊥) → (t ≡ 7 → ⊥)
-    → false ≡ linkLegal r k t a b
+pub link-other : (r : Recording ℕ) (s : Side) (t a b : ℕ) → (t ≡ 1 → ⊥) → (t ≡ 2 → ⊥) → (t ≡ 3 → ⊥) → (t ≡ 4 → ⊥) → (t ≡ 5 → ⊥) → (t ≡ 6 → ⊥) → (t ≡ 7 → ⊥)
+    → false ≡ linkLegal r s t a b
 unfolding linkLegal
-link-other r k zero a b h1 h2 h3 h4 h5 h6 h7 = refl
-link-other r k (suc zero) a b h1 h2 h3 h4 h5 h6 h7 = absurd (h1 refl)
-link-other r k (suc (suc zero)) a b h1 h2 h3 h4 h5 h6 h7 = absurd (h2 refl)
-link-other r k (suc (suc (suc zero))) a b h1 h2 h3 h4 h5 h6 h7 = absurd (h3 refl)
-link-other r k (suc (suc (suc (suc zero)))) a b h1 h2 h3 h4 h5 h6 h7 = absurd (h4 refl)
-link-other r k (suc (suc (suc (suc (suc zero))))) a b h1 h2 h3 h4 h5 h6 h7 = absurd (h5 refl)
-link-other r k (suc (suc (suc (suc (suc (suc zero)))))) a b h1 h2 h3 h4 h5 h6 h7 = absurd (h6 refl)
-link-other r k (suc (suc (suc (suc (suc (suc (suc zero))))))) a b h1 h2 h3 h4 h5 h6 h7 = absurd (h7 refl)
-link-other r k (suc (suc (suc (suc (suc (suc (suc (suc n)))))))) a b h1 h2 h3 h4 h5 h6 h7 = refl
+link-other r s zero a b h1 h2 h3 h4 h5 h6 h7 = refl
+link-other r s (suc zero) a b h1 h2 h3 h4 h5 h6 h7 = absurd (h1 refl)
+link-other r s (suc (suc zero)) a b h1 h2 h3 h4 h5 h6 h7 = absurd (h2 refl)
+link-other r s (suc (suc (suc zero))) a b h1 h2 h3 h4 h5 h6 h7 = absurd (h3 refl)
+link-other r s (suc (suc (suc (suc zero)))) a b h1 h2 h3 h4 h5 h6 h7 = absurd (h4 refl)
+link-other r s (suc (suc (suc (suc (suc zero))))) a b h1 h2 h3 h4 h5 h6 h7 = absurd (h5 refl)
+link-other r s (suc (suc (suc (suc (suc (suc zero)))))) a b h1 h2 h3 h4 h5 h6 h7 = absurd (h6 refl)
+link-other r s (suc (suc (suc (suc (suc (suc (suc zero))))))) a b h1 h2 h3 h4 h5 h6 h7 = absurd (h7 refl)
+link-other r s (suc (suc (suc (suc (suc (suc (suc (suc n)))))))) a b h1 h2 h3 h4 h5 h6 h7 = refl
 
 -- Another recorded event.
 pub not-recorded : (f : List ℕ) (b : ℕ) (x : Bool) → isRecorded f b ≡ false → false ≡ decode f .recorded b && x
@@ -111,22 +90,22 @@ unfolding decode
 is-recorded-and f b x y p e = rw p e
 
 -- A link record, read byte by byte.
-pub link-read : (f : List ℕ) (k b m t a : ℕ) (x : Bool) → t ≡ linkByte f m 1 → a ≡ linkByte f m 2 → x ≡ linkLegal (decode f) k t a b
-    → x ≡ linkLegal (decode f) k (linkByte f m 1) (linkByte f m 2) b
-link-read f k b m t a x p q e = e ∙ ap₂ (λ (i j : ℕ). linkLegal (decode f) k i j b) p q
+pub link-read : (f : List ℕ) (s : Side) (b m t a : ℕ) (x : Bool) → t ≡ linkByte f m 1 → a ≡ linkByte f m 2 → x ≡ linkLegal (decode f) s t a b
+    → x ≡ linkLegal (decode f) s (linkByte f m 1) (linkByte f m 2) b
+link-read f s b m t a x p q e = e ∙ ap₂ (λ (i j : ℕ). linkLegal (decode f) s i j b) p q
 
 -- In a file whose events are legal, reads and writes have one of its locations.
-legal-read-location : (k L class mode flag location value : ℕ) → class ≡ 1 → legal k L class mode flag location value ≡ true → location < L
-unfolding legal
-legal-read-location k L class mode flag location value e p =
-    ltb-true location L
-    (and-right (readLegal mode flag) (ltb location L) (subst (λ (c : ℕ). legal k L c mode flag location value ≡ true) e p))
+module _ (s : Side) (L class mode flag location value : ℕ) (legal-numbers : legal s L class mode flag location value ≡ true) where
+  legal-as : (c : ℕ) → class ≡ c → legal s L c mode flag location value ≡ true
+  legal-as c e = subst (λ (x : ℕ). legal s L x mode flag location value ≡ true) e legal-numbers
 
-legal-write-location : (k L class mode flag location value : ℕ) → class ≡ 2 → legal k L class mode flag location value ≡ true → location < L
-unfolding legal
-legal-write-location k L class mode flag location value e p =
-    ltb-true location L
-    (and-right (writeLegal k mode flag) (ltb location L) (subst (λ (c : ℕ). legal k L c mode flag location value ≡ true) e p))
+  legal-read-location : class ≡ 1 → location < L
+  unfolding legal
+  legal-read-location e = ltb-true location L (and-right (readLegal mode flag) (ltb location L) (legal-as 1 e))
+
+  legal-write-location : class ≡ 2 → location < L
+  unfolding legal
+  legal-write-location e = ltb-true location L (and-right (writeLegal s mode flag) (ltb location L) (legal-as 2 e))
 
 module _ (f : List ℕ) (s : Sized f) (legal-events : each (events f) (eventLegal f) ≡ true) where
   recorded-legal : (e : ℕ) → isRecorded f e ≡ true → eventLegal f e ≡ true
@@ -149,8 +128,8 @@ module _ (f : List ℕ) (s : Sized f) (legal-events : each (events f) (eventLega
   unfolding access eventLegal
   access-location e p =
       elim (or-either (ofClass (decode f) 1 e) (ofClass (decode f) 2 e) p) [
-        | inl q ↦ class-location 1 e q (λ r. legal-read-location _ _ _ _ _ _ _ (class-is (decode f) 1 e q) (recorded-legal e r))
-        | inr q ↦ class-location 2 e q (λ r. legal-write-location _ _ _ _ _ _ _ (class-is (decode f) 2 e q) (recorded-legal e r))
+        | inl q ↦ class-location 1 e q (λ r. legal-read-location _ _ _ _ _ _ _ (recorded-legal e r) (class-is (decode f) 1 e q))
+        | inr q ↦ class-location 2 e q (λ r. legal-write-location _ _ _ _ _ _ _ (recorded-legal e r) (class-is (decode f) 2 e q))
       ]
 
   pub accesses-located : Located f

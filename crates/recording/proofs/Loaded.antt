@@ -3,7 +3,7 @@ use mathlib.Core.Path.{_≡_, refl, sym, ap, subst, _∙_}
 use mathlib.Core.Bool.{Bool, true, false, not, _&&_, _||_, false≢true}
 use mathlib.Core.List.{List, [], _∷_}
 use mathlib.Core.Logic.{_⊎_, inl, inr}
-use Prim.Native.Nat.{ℕ, zero, suc, _-_, _<_, _≤_}
+use Prim.Native.Nat.{ℕ, zero, suc, _<_, _≤_}
 use native.Mathlib.Omega.{arith}
 use native.Mathlib.Decide.{ℕ-discrete}
 use borrow.Author.Tests.{eqb-true, eq-eqb, ne-eqb, leb-true, not-false}
@@ -16,8 +16,8 @@ use Rattle.models.specs.Recording.{event, ofClass, flagged, access, coStep}
 use Rattle.models.specs.Graph.{graph, base, Within}
 use Rattle.models.specs.Loads.{Loads}
 use Rattle.models.proofs.Tests.{or-cases, below-listed, plus-one, plus-join, plus-steps}
-use Rattle.layout.specs.Layout.{kind, isSource, events, Sized}
-use Rattle.layout.specs.Chains.{among, fresh, onceEach, nextEvent, head, threadsSound, linksInto, allOf, thread, threadsUpTo}
+use Rattle.layout.specs.Layout.{Side, side, events}
+use Rattle.layout.specs.Chains.{among, fresh, onceEach, nextEvent, head, linksInto, allOf, thread, threadsUpTo}
 use Rattle.layout.specs.Decode.{isRecorded, isInitial, decode, fieldOr}
 use Rattle.reading.specs.Sets.{Located}
 use Rattle.reading.specs.Readable.{Readable}
@@ -26,9 +26,9 @@ use Rattle.relation.proofs.Truth.{is-true, holds}
 use Rattle.layout.proofs.FieldLaws.{recorded-bounds, field-initial, event-small}
 use Rattle.layout.proofs.ChainLaws.{each-at}
 use Rattle.recording.proofs.LegalLaws.{accesses-located}
-use Rattle.recording.proofs.CauseLaws.{source-event, chained, readable-of, legal-of}
+use Rattle.recording.proofs.CauseLaws.{source-event, chained, readable-of}
 use Rattle.layout.proofs.ChainFacts.{Ended, end, step, among-cases, ended-after, chain-ended, met-cases, one-chain}
-use Rattle.recording.proofs.Accepted.{Accepted, accepted, sized, legal-event, threads-sound, links-legal, legal-link}
+use Rattle.recording.proofs.Accepted.{cause, passes, sized, legal-events, legal-event, threads-sound, links-legal, legal-link}
 
 -- The chain from x is one list.
 ended-unique : (limit : ℕ) (next : ℕ → ℕ) {x : ℕ} {l k : List ℕ} → Ended limit next x l → Ended limit next x k → l ≡ k
@@ -93,7 +93,7 @@ same-depth limit next a b (step {x = x} {l = l} p q w) m n {j} {k} u v e =
         omega (arith, h, ap length d, ap length f, g)
 
 -- Threads: every record is on a chain that ends.
-module _ (f : List ℕ) (a : Accepted f) where
+module _ (f : List ℕ) (a : refusal f ≡ 0) where
   sound : fresh (events f) [] (threadsUpTo f 4) ≡ true
   unfolding onceEach
   sound = and-left _ _ (threads-sound f a)
@@ -164,7 +164,7 @@ module _ (f : List ℕ) (a : Accepted f) where
       (longer x z p w u ∙ sym (longer y z q v u))
 
   -- Links: what the condition of each type says.
-  legal : (t x y : ℕ) → T (decode f .link t x y) → linkLegal (decode f) (kind f) t x y ≡ true
+  legal : (t x y : ℕ) → T (decode f .link t x y) → linkLegal (decode f) (side f) t x y ≡ true
   legal t x y h = legal-link f a t x y (is-true _ h)
 
   located : (x y : ℕ) → sameLocations (decode f) x y ≡ true → decode f .location x ≡ decode f .location y
@@ -245,10 +245,10 @@ module _ (f : List ℕ) (a : Accepted f) where
   casdep-of x y h =
       let p = legal 7 x y h in
       let (r, o) = from-read x y (and-left (fromRead (decode f) x y) _ p) in
-      (r, holds _ (and-right (isSource (kind f)) (flagged (decode f) 1 y) (and-right (fromRead (decode f) x y) _ p)), o)
+      (r, holds _ (and-right (side f) (flagged (decode f) 1 y) (and-right (fromRead (decode f) x y) _ p)), o)
 
   link-from : (t x y : ℕ) → T (decode f .link t x y) → event (decode f) x ≡ true
-  link-from t x y h = source-event (decode f) (kind f) t x y (legal t x y h)
+  link-from t x y h = source-event (decode f) (side f) t x y (legal t x y h)
 
   link-into : (t x y : ℕ) → T (decode f .link t x y) → isRecorded f y ≡ true
   unfolding decode
@@ -306,10 +306,10 @@ module _ (f : List ℕ) (a : Accepted f) where
       middle (cons {a = u} {b = v} g q) = small u (co-source u v g)
 
   co-rings : (x : ℕ) → Plus (λ u v. T (coStep (decode f) u v)) x x → ⊥
-  unfolding coRing diagonal base
+  unfolding cause coRing diagonal base
   co-rings x p =
       false≢true
-      (sym (a .cause9)
+      (sym (passes f a 9)
       ∙ some-complete nodes (diagonal (plus nodes (coStep (decode f)))) x (mem-below 64 x (starts p)) (is-true _ (co-computed x x p)))
     where
       starts : {v : ℕ} → Plus (λ i j. T (coStep (decode f) i j)) x v → x < 64
@@ -324,13 +324,13 @@ module _ (f : List ℕ) (a : Accepted f) where
   unfolding decode
   initial-class e p = sym (field-initial f 1 2 e (initial-bound e p))
 
-  legal-class : (k L class mode flag location value : ℕ) → legalNumbers k L class mode flag location value ≡ true → (class ≡ 1) ⊎ (class ≡ 2) ⊎ (class ≡ 3)
+  legal-class : (s : Side) (L class mode flag location value : ℕ) → legalNumbers s L class mode flag location value ≡ true → (class ≡ 1) ⊎ (class ≡ 2) ⊎ (class ≡ 3)
   unfolding legalNumbers
-  legal-class k L zero mode flag location value p = absurd (false≢true p)
-  legal-class k L (suc zero) mode flag location value p = inl refl
-  legal-class k L (suc (suc zero)) mode flag location value p = inr (inl refl)
-  legal-class k L (suc (suc (suc zero))) mode flag location value p = inr (inr refl)
-  legal-class k L (suc (suc (suc (suc n)))) mode flag location value p = absurd (false≢true p)
+  legal-class s L zero mode flag location value p = absurd (false≢true p)
+  legal-class s L (suc zero) mode flag location value p = inl refl
+  legal-class s L (suc (suc zero)) mode flag location value p = inr (inl refl)
+  legal-class s L (suc (suc (suc zero))) mode flag location value p = inr (inr refl)
+  legal-class s L (suc (suc (suc (suc n)))) mode flag location value p = absurd (false≢true p)
 
   class-of : (e : ℕ) → isRecorded f e ≡ true → (decode f .class e ≡ 1) ⊎ (decode f .class e ≡ 2) ⊎ (decode f .class e ≡ 3)
   unfolding eventLegal
@@ -348,8 +348,8 @@ module _ (f : List ℕ) (a : Accepted f) where
       ]
 
   paired-record : (e : ℕ) → isRecorded f e ≡ true → pairedAt f e ≡ true
-  unfolding unpaired
-  paired-record e p = let (l, r) = recorded-bounds f e p in each-at (events f) (pairedAt f) (not-false _ (a .cause10)) e l r
+  unfolding cause unpaired
+  paired-record e p = let (l, r) = recorded-bounds f e p in each-at (events f) (pairedAt f) (not-false _ (passes f a 10)) e l r
 
   strong-of : (e : ℕ) → T (flagged (decode f) 2 e) → (x : ℕ) × T (decode f .link 3 x e)
   unfolding pairedAt inverse
@@ -362,9 +362,10 @@ module _ (f : List ℕ) (a : Accepted f) where
       second true d u v = v
       second false d u v = absurd (false≢true u)
 
-  pub accepted-loads : Loads (decode f)
+  -- The theorem: a file that loads holds a recording with these properties, whose events are numbered below 64.
+  pub loads : Loads (decode f)
   unfolding decode
-  accepted-loads =
+  loads =
       record {
         initial-write = λ e h. initial-class e (is-true _ h);
         initial-unrecorded = λ e h g. (let (l, r) = recorded-bounds f e (is-true _ g) in omega (arith, initial-bound e (is-true _ h), sized f a .most-events));
@@ -386,8 +387,8 @@ module _ (f : List ℕ) (a : Accepted f) where
         strong = strong-of;
       }
 
-  pub accepted-within : Within nodes (decode f)
-  accepted-within =
+  pub loaded-within : Within nodes (decode f)
+  loaded-within =
       record {
         listed = λ e h. below-listed 64 e (small e (is-true _ h));
         next-source = λ x y h. holds _ (recorded-event x (next-from x y (is-true _ h)));
@@ -396,22 +397,10 @@ module _ (f : List ℕ) (a : Accepted f) where
         link-target = λ t x y h. holds _ (recorded-event y (link-into t x y h));
       }
 
--- The theorem: a file that loads holds a recording with these properties, whose events are numbered below 64.
-pub loads : (f : List ℕ) → refusal f ≡ 0 → Loads (decode f)
-loads f p = accepted-loads f (accepted f p)
-
-pub loaded-within : (f : List ℕ) → refusal f ≡ 0 → Within nodes (decode f)
-loaded-within f p = accepted-within f (accepted f p)
-
 -- What the functions that read a loaded file ask for.
-pub loaded-sized : (f : List ℕ) → refusal f ≡ 0 → Sized f
-loaded-sized f p = sized f (accepted f p)
-
 pub loaded-readable : (f : List ℕ) → refusal f ≡ 0 → Readable f
-loaded-readable f p = (let a = accepted f p in readable-of f (chained f (sized f a) (a .cause7)) (a .cause8))
+unfolding cause
+loaded-readable f p = readable-of f (chained f (sized f p) (passes f p 7)) (passes f p 8)
 
 pub loaded-located : (f : List ℕ) → refusal f ≡ 0 → Located f
-loaded-located f p = accesses-located f (loaded-sized f p) (legal-of f (accepted f p .cause5))
-
-pub loaded-threads : (f : List ℕ) → refusal f ≡ 0 → threadsSound f ≡ true
-loaded-threads f p = threads-sound f (accepted f p)
+loaded-located f p = accesses-located f (sized f p) (legal-events f p)

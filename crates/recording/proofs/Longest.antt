@@ -1,67 +1,44 @@
 -- A file longer than the longest that loads gets what its first bytes fix, so a reader of a stream may stop early.
 use mathlib.Core.Path.{_≡_, refl, sym, ap, _∙_}
-use mathlib.Core.Bool.{Bool, true, false, not, _||_, false≢true}
-use mathlib.Core.List.{List, [], _∷_}
+use mathlib.Core.Bool.{Bool, true, false, not}
+use mathlib.Core.List.{List, [], _∷_, _++_}
 use mathlib.Core.Logic.{_⊎_, inl, inr}
-use Prim.Native.Nat.{ℕ, suc, _+_, _<_, _≤_}
+use Prim.Native.Nat.{ℕ, suc, _+_, _<_}
 use native.Mathlib.Omega.{arith}
 use native.Mathlib.Decide.{decLt}
 use native.Mathlib.Nat.{min-le-right}
-use borrow.Author.Tests.{le-ltb, ltb-false, ne-eqb}
-use lib.Dec.{ltb}
+use borrow.Author.Tests.{le-ltb, ne-eqb}
 use lib.ListN.{length, take, length-take}
 use lib.Seq.{getD-take, length-take-le, take-all}
 use Rattle.models.specs.Rules.{first}
-use Rattle.layout.specs.Layout.{kind, events, locations, links, kindKnown, isSource, mostEvents, mostLinks, fullLength}
-use Rattle.recording.specs.Causes.{headerOver, tooShort, kindUnknown, overLimit, wrongLength, headerCauses, bodyCauses, refusal}
+use Rattle.layout.specs.Layout.{kind, sideOf, side, events, locations, links, kindKnown, fullLength}
+use Rattle.recording.specs.Causes.{headerOver, tooShort, kindUnknown, overLimit, wrongLength, headerCauses, recordCauses, linkCauses, causes, refusal}
+use Rattle.layout.proofs.FieldLaws.{most-events-48, most-links-255}
 use Rattle.recording.specs.Input.{longest, ReadOf}
-use Rattle.recording.proofs.CauseLaws.{first-skip}
+use Rattle.recording.proofs.CauseLaws.{limits}
 
 -- The number that a file longer than that gets: it passes cause 1 and is stopped by 2, 3 or 4.
 unfoldable pub overlong : ℕ → ℕ → ℕ → ℕ → ℕ
-overlong k n l m = first 2 (not (kindKnown k) ∷ headerOver k n l m ∷ true ∷ [])
-
-most-links-bound : (k : ℕ) → mostLinks k ≤ 255
-unfolding mostLinks
-most-links-bound k = go (isSource k)
-  where
-    go : (b : Bool) → elim b [ true ↦ 200 | false ↦ 255 ] ≤ 255
-    go true = omega arith
-    go false = omega arith
-
-most-events-bound : (k : ℕ) → mostEvents k ≤ 48
-unfolding mostEvents
-most-events-bound k = go (isSource k)
-  where
-    go : (b : Bool) → elim b [ true ↦ 32 | false ↦ 48 ] ≤ 48
-    go true = omega arith
-    go false = omega arith
+overlong k n l m = first ((2, not (kindKnown k)) ∷ (3, headerOver (sideOf k) n l m) ∷ (4, true) ∷ [])
 
 -- Within the limits no length over the longest is right.
-too-long : (f : List ℕ) → longest < length f → headerOver (kind f) (events f) (locations f) (links f) ≡ false → wrongLength f ≡ true
-unfolding headerOver wrongLength
+too-long : (f : List ℕ) → longest < length f → overLimit f ≡ false → wrongLength f ≡ true
+unfolding wrongLength
 too-long f h p =
-    let a = neither (ltb (mostEvents (kind f)) (events f)) _ p in
-    let b = neither (ltb 8 (locations f)) (ltb (mostLinks (kind f)) (links f)) (a .1) in
+    let w = limits f p in
     ap not
-    (ne-eqb (length f) (fullLength f)
-    (λ e. omega (arith, ltb-false (mostEvents (kind f)) (events f) (a .0), ltb-false (mostLinks (kind f)) (links f) (b .1), most-events-bound (kind f), most-links-bound (kind f))))
-  where
-    neither : (x y : Bool) → x || y ≡ false → (x ≡ false) × (y ≡ false)
-    neither true y e = absurd (false≢true (sym e))
-    neither false y e = (refl, e)
+    (ne-eqb (length f) (fullLength f) (λ e. omega (arith, w .0, w .2, most-events-48 (side f), most-links-255 (side f))))
 
 -- What such a file gets depends on its first four bytes alone.
 pub refusal-overlong : (f : List ℕ) → longest < length f → refusal f ≡ overlong (kind f) (events f) (locations f) (links f)
-unfolding refusal headerCauses tooShort kindUnknown overLimit overlong first
-refusal-overlong f h =
-    sym (first-skip 1 _ _ (not (kindKnown (kind f)) ∷ headerOver (kind f) (events f) (locations f) (links f) ∷ wrongLength f ∷ bodyCauses f) (le-ltb (length f) 8 (omega arith)) (stopped (not (kindKnown (kind f))) (headerOver (kind f) (events f) (locations f) (links f)) refl))
+unfolding refusal causes headerCauses tooShort kindUnknown overLimit overlong first
+refusal-overlong f h = rw (le-ltb (length f) 8 (omega arith), refusal) (stopped (not (kindKnown (kind f))) (overLimit f) refl)
   where
-    stopped : (u v : Bool) → headerOver (kind f) (events f) (locations f) (links f) ≡ v
-        → first 2 (u ∷ v ∷ true ∷ []) ≡ first 2 (u ∷ v ∷ wrongLength f ∷ bodyCauses f)
+    stopped : (u v : Bool) → overLimit f ≡ v
+        → first ((2, u) ∷ (3, v) ∷ (4, wrongLength f) ∷ (recordCauses f ++ linkCauses f)) ≡ first ((2, u) ∷ (3, v) ∷ (4, true) ∷ [])
     stopped true v e = refl
     stopped false true e = refl
-    stopped false false e = sym (ap (λ (b : Bool). first 4 (b ∷ bodyCauses f)) (too-long f h e))
+    stopped false false e = ap (λ (b : Bool). first ((4, b) ∷ (recordCauses f ++ linkCauses f))) (too-long f h e)
 
 pub stream : (f : List ℕ) → longest < length f → refusal f ≡ refusal (take (longest + 1) f)
 stream f h =
@@ -75,16 +52,16 @@ stream f h =
 
 -- So what is read of an input is the whole of it, or is refused as the whole is.
 pub read-of : (f : List ℕ) → (take (longest + 1) f ≡ f) ⊎ ((n : ℕ) × (refusal f ≡ suc n) × (refusal (take (longest + 1) f) ≡ suc n))
-unfolding overlong first
+unfolding overlong overLimit first
 read-of f =
     elim (decLt longest (length f)) [
-      | yes h ↦ let (n, e) = refused (not (kindKnown (kind f))) (headerOver (kind f) (events f) (locations f) (links f)) in
+      | yes h ↦ let (n, e) = refused (not (kindKnown (kind f))) (overLimit f) in
           let all : refusal f ≡ suc n = refusal-overlong f h ∙ e in
           inr (n, all, sym (stream f h) ∙ all)
       | no h ↦ inl (take-all (longest + 1) f (omega (arith, h)))
     ]
   where
-    refused : (u v : Bool) → (n : ℕ) × (first 2 (u ∷ v ∷ true ∷ []) ≡ suc n)
+    refused : (u v : Bool) → (n : ℕ) × (first ((2, u) ∷ (3, v) ∷ (4, true) ∷ []) ≡ suc n)
     refused true v = (1, refl)
     refused false true = (2, refl)
     refused false false = (3, refl)

@@ -7,43 +7,45 @@ use lib.ListN.{length, getD}
 use Rattle.relation.specs.Rel.{some, inverse, diagonal, nodes}
 use Rattle.models.specs.Recording.{Recording, read, write, access, exclusiveRead, strongWrite}
 use Rattle.models.specs.Graph.{base}
-use Rattle.models.specs.Rules.{first}
-use Rattle.layout.specs.Layout.{kind, events, locations, links, kindKnown, isSource, mostEvents, mostLocations, mostLinks, headerSize, fullLength, linkByte}
+use Rattle.models.specs.Rules.{Numbered, first}
+use Rattle.layout.specs.Layout.{Side, kind, side, events, locations, links, kindKnown, mostEvents, mostLocations, mostLinks, headerSize, fullLength, linkByte}
 use Rattle.layout.specs.Chains.{each, allOf, threadsSound, linksSound, linksInto}
 use Rattle.layout.specs.Decode.{decode}
 
--- 3. The limits by kind.
-unfoldable pub headerOver : ℕ → ℕ → ℕ → ℕ → Bool
-headerOver k n l m = ltb (mostEvents k) n || (ltb mostLocations l || ltb (mostLinks k) m)
+-- 3. The limits by side.
+unfoldable pub headerOver : Side → ℕ → ℕ → ℕ → Bool
+headerOver s n l m = ltb (mostEvents s) n || (ltb mostLocations l || ltb (mostLinks s) m)
 
--- 5. The table of classes, modes and flags by kind.
+-- 5. The table of classes, modes and flags by side.
 unfoldable pub readLegal : ℕ → ℕ → Bool
 readLegal mode flag = leb mode 1 && leb flag 1
 
-unfoldable pub writeLegal : ℕ → ℕ → ℕ → Bool
-writeLegal k mode flag = (eqb mode 0 || eqb mode 2) && (eqb flag 0 || (eqb flag 1 && isSource k))
+-- Only a source write may be strong.
+unfoldable pub writeLegal : Side → ℕ → ℕ → Bool
+writeLegal s mode flag = (eqb mode 0 || eqb mode 2) && (eqb flag 0 || (eqb flag 1 && s))
 
-unfoldable pub fenceMode : ℕ → ℕ → Bool
-fenceMode k mode = elim (isSource k) [ true ↦ leb 1 mode && leb mode 4 | false ↦ leb 5 mode && leb mode 6 ]
+-- Source fences have modes 1 to 4, chip fences 5 and 6.
+unfoldable pub fenceMode : Side → ℕ → Bool
+fenceMode s mode = elim s [ true ↦ leb 1 mode && leb mode 4 | false ↦ leb 5 mode && leb mode 6 ]
 
-unfoldable pub fenceLegal : ℕ → ℕ → ℕ → Bool
-fenceLegal k mode flag = fenceMode k mode && eqb flag 0
+unfoldable pub fenceLegal : Side → ℕ → ℕ → Bool
+fenceLegal s mode flag = fenceMode s mode && eqb flag 0
 
 -- A read's or write's location is below L; a fence has location and value 0. By class: none but 1, 2 and 3 is legal.
-unfoldable pub legal : ℕ → ℕ → ℕ → ℕ → ℕ → ℕ → ℕ → Bool
-legal k L class mode flag location value =
+unfoldable pub legal : Side → ℕ → ℕ → ℕ → ℕ → ℕ → ℕ → Bool
+legal s L class mode flag location value =
     getD
     (false
     ∷ (readLegal mode flag && ltb location L)
-    ∷ (writeLegal k mode flag && ltb location L)
-    ∷ (fenceLegal k mode flag && (eqb location 0 && eqb value 0))
+    ∷ (writeLegal s mode flag && ltb location L)
+    ∷ (fenceLegal s mode flag && (eqb location 0 && eqb value 0))
     ∷ [])
     class false
 
 unfoldable pub eventLegal : List ℕ → ℕ → Bool
 eventLegal f e =
     let r : Recording ℕ = decode f in
-    legal (kind f) (locations f) (r .class e) (r .mode e) (r .flag e) (r .location e) (r .value e)
+    legal (side f) (locations f) (r .class e) (r .mode e) (r .flag e) (r .location e) (r .value e)
 
 -- 8. The conditions of a link by its type, from a to b of a recording.
 module _ (r : Recording ℕ) where
@@ -78,15 +80,15 @@ module _ (r : Recording ℕ) where
   unfoldable pub ctrlLegal : ℕ → ℕ → Bool
   ctrlLegal a b = fromRead a b
 
-  -- 7 casdep: read to po-later exclusive read; kind 1 only.
-  unfoldable pub casdepLegal : ℕ → ℕ → ℕ → Bool
-  casdepLegal k a b = fromRead a b && (isSource k && exclusiveRead r b)
+  -- 7 casdep: read to po-later exclusive read; source only.
+  unfoldable pub casdepLegal : Side → ℕ → ℕ → Bool
+  casdepLegal s a b = fromRead a b && (s && exclusiveRead r b)
 
   -- By type: none but 1 to 7 is legal.
-  unfoldable pub linkLegal : ℕ → ℕ → ℕ → ℕ → Bool
-  linkLegal k t a b =
+  unfoldable pub linkLegal : Side → ℕ → ℕ → ℕ → Bool
+  linkLegal s t a b =
       getD
-      (false ∷ rfLegal a b ∷ coLegal a b ∷ rmwLegal a b ∷ dataLegal a b ∷ addrLegal a b ∷ ctrlLegal a b ∷ casdepLegal k a b ∷ [])
+      (false ∷ rfLegal a b ∷ coLegal a b ∷ rmwLegal a b ∷ dataLegal a b ∷ addrLegal a b ∷ ctrlLegal a b ∷ casdepLegal s a b ∷ [])
       t false
 
   -- One source per read: no two different sources of rf links into b.
@@ -95,7 +97,7 @@ module _ (r : Recording ℕ) where
 
 -- The link record m into b: type and conditions as above, last byte 0.
 unfoldable pub linkSound : List ℕ → ℕ → ℕ → Bool
-linkSound f b m = linkLegal (decode f) (kind f) (linkByte f m 1) (linkByte f m 2) b && eqb (linkByte f m 3) 0
+linkSound f b m = linkLegal (decode f) (side f) (linkByte f m 1) (linkByte f m 2) b && eqb (linkByte f m 3) 0
 
 -- The links into b: each is sound, and b has one rf source.
 unfoldable pub linksSoundAt : List ℕ → ℕ → Bool
@@ -117,7 +119,7 @@ module _ (f : List ℕ) where
 
   -- 3 N, L or M over its limit
   unfoldable pub overLimit : Bool
-  overLimit = headerOver (kind f) (events f) (locations f) (links f)
+  overLimit = headerOver (side f) (events f) (locations f) (links f)
 
   -- 4 length not 8 + 8 times N + 4 times M
   unfoldable pub wrongLength : Bool
@@ -147,13 +149,19 @@ module _ (f : List ℕ) where
   unfoldable pub unpaired : Bool
   unpaired = not (each (events f) (pairedAt f))
 
-  -- In order: those of the header and the length, then those of the records.
-  unfoldable pub headerCauses : List Bool
-  headerCauses = tooShort ∷ kindUnknown ∷ overLimit ∷ wrongLength ∷ []
+  -- In order, each with its number: those of the header and the length, those of the records and their chains, those of the links.
+  unfoldable pub headerCauses : List Numbered
+  headerCauses = (1, tooShort) ∷ (2, kindUnknown) ∷ (3, overLimit) ∷ (4, wrongLength) ∷ []
 
-  unfoldable pub bodyCauses : List Bool
-  bodyCauses = badEvent ∷ badThreads ∷ badChains ∷ badLink ∷ coRing ∷ unpaired ∷ []
+  unfoldable pub recordCauses : List Numbered
+  recordCauses = (5, badEvent) ∷ (6, badThreads) ∷ (7, badChains) ∷ []
 
-  -- The first cause that applies, and 0 where none does.
+  unfoldable pub linkCauses : List Numbered
+  linkCauses = (8, badLink) ∷ (9, coRing) ∷ (10, unpaired) ∷ []
+
+  unfoldable pub causes : List Numbered
+  causes = headerCauses ++ (recordCauses ++ linkCauses)
+
+  -- The number of the first cause that applies, and 0 where none does.
   unfoldable pub refusal : ℕ
-  refusal = first 1 (headerCauses ++ bodyCauses)
+  refusal = first causes

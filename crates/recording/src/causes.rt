@@ -1,4 +1,4 @@
-// The causes of refusal, tried from the first down to number 10, and loading.
+// The causes of refusal, tried in their order, and loading.
 
 use crate::Header;
 use crate::Load;
@@ -6,6 +6,7 @@ use crate::legal;
 use crate::links;
 use layout::chain;
 use layout::field;
+use layout::kind;
 use reading::graph;
 use relation::grid;
 use relation::grid::Grid;
@@ -18,11 +19,11 @@ ghost use Rattle.relation.specs.Bits.{edge};
 ghost use Rattle.relation.specs.Rel.{nodes};
 ghost use Rattle.models.specs.Graph.{base};
 ghost use Rattle.models.specs.Rules.{first};
-ghost use Rattle.layout.specs.Layout.{kind, events, locations, links, kindKnown, mostEvents, mostLinks, Sized};
+ghost use Rattle.layout.specs.Layout.{events, locations, links, Sized};
 ghost use Rattle.layout.specs.Chains.{each};
 ghost use Rattle.layout.specs.Decode.{decode};
 ghost use Rattle.reading.specs.Readable.{Readable, Chained};
-ghost use Rattle.recording.specs.Causes.{linksSoundAt, pairedAt, headerOver, headerCauses, bodyCauses, badThreads, badChains, coRing};
+ghost use Rattle.recording.specs.Causes.{linksSoundAt, pairedAt, headerOver, headerCauses, recordCauses, linkCauses, refusal, badThreads, badChains, coRing};
 ghost use Rattle.recording.specs.Load.{headerOf, loadOf, numberOf, causeFor};
 
 // Whether all links are sound.
@@ -97,10 +98,10 @@ pub fn chains_sound(file: &[u8]) -> bool
     chain::once_each(file, 15, 8, n, 8 + 8 * n, 4, m)
 }
 
-// The first of causes 5 to 10 that applies, or 0.
-pub fn body_refusal(file: &[u8]) -> u8
+// The first of the causes of the records and their chains, 5 to 7, that applies, or 0.
+pub fn record_refusal(file: &[u8]) -> u8
     requires { ⌜ Sized (now file) ⌝ }
-    ensures { λ r. ⌜ r ≡ first 5 (bodyCauses (now (file .entry))) ⌝ }
+    ensures { λ r. ⌜ r ≡ first (recordCauses (now (file .entry))) ⌝ }
 {
     if !legal::events_legal(file) {
         return 5;
@@ -111,6 +112,14 @@ pub fn body_refusal(file: &[u8]) -> u8
     if !chains_sound(file) {
         return 7;
     }
+    0
+}
+
+// The first of the causes of the links, 8 to 10, that applies, or 0.
+pub fn link_refusal(file: &[u8]) -> u8
+    requires { ⌜ Sized (now file) × (first (recordCauses (now file)) ≡ 0) ⌝ }
+    ensures { λ r. ⌜ r ≡ first (linkCauses (now (file .entry))) ⌝ }
+{
     if !links_sound(file, graph::program_order(file)) {
         return 8;
     }
@@ -123,40 +132,13 @@ pub fn body_refusal(file: &[u8]) -> u8
     0
 }
 
-// Whether the kind is source or chip.
-pub fn known(kind: usize) -> bool
-    ensures { λ r. ⌜ r ≡ kindKnown kind ⌝ }
-{
-    kind == 1 || kind == 2
-}
-
-// The most event records of a file of this kind.
-pub fn most_events(kind: usize) -> usize
-    ensures { λ r. ⌜ r ≡ mostEvents kind ⌝ }
-{
-    if legal::is_source(kind) {
-        return 32;
-    }
-    48
-}
-
-// The most link records of a file of this kind.
-pub fn most_links(kind: usize) -> usize
-    ensures { λ r. ⌜ r ≡ mostLinks kind ⌝ }
-{
-    if legal::is_source(kind) {
-        return 200;
-    }
-    255
-}
-
-// The header's numbers.
+// What the header says.
 pub fn header(file: &[u8]) -> Header
     requires { ⌜ 8 ≤ length (now file) ⌝ }
     ensures { λ r. ⌜ (r ≡ headerOf (now (file .entry))) × (r .events < 256) × (r .links < 256) ⌝ }
 {
     Header {
-        kind: file[0] as usize,
+        source: kind::side_of(file[0] as usize),
         events: file[1] as usize,
         locations: file[2] as usize,
         links: file[3] as usize,
@@ -165,34 +147,33 @@ pub fn header(file: &[u8]) -> Header
 
 // Whether N, L or M is over its limit.
 pub fn over_limit(h: Header) -> bool
-    ensures { λ r. ⌜ r ≡ headerOver (h .kind) (h .events) (h .locations) (h .links) ⌝ }
+    ensures { λ r. ⌜ r ≡ headerOver (h .source) (h .events) (h .locations) (h .links) ⌝ }
 {
-    let kind = h.kind;
+    let source = h.source;
     let n = h.events;
     let l = h.locations;
     let m = h.links;
-    if most_events(kind) < n {
+    if kind::most_events(source) < n {
         return true;
     }
     if 8 < l {
         return true;
     }
-    most_links(kind) < m
+    kind::most_links(source) < m
 }
 
-// The first of causes 1 to 4 that applies, or 0.
+// The first of the causes of the header and the length, 1 to 4, that applies, or 0.
 pub fn header_refusal(file: &[u8]) -> u8
-    ensures cause { λ r. ⌜ r ≡ first 1 (headerCauses (now (file .entry))) ⌝ }
+    ensures cause { λ r. ⌜ r ≡ first (headerCauses (now (file .entry))) ⌝ }
     ensures sized { λ r. ⌜ (r ≡ 0 → Sized (now (file .entry))) ⌝ }
 {
     if file.len() < 8 {
         return 1;
     }
-    let h = header(file);
-    let kind = h.kind;
-    if !known(kind) {
+    if !kind::known(file[0] as usize) {
         return 2;
     }
+    let h = header(file);
     if over_limit(h) {
         return 3;
     }
@@ -204,17 +185,28 @@ pub fn header_refusal(file: &[u8]) -> u8
     0
 }
 
+// The first cause that applies, or 0.
+pub fn refusal(file: &[u8]) -> u8
+    ensures { λ r. ⌜ r ≡ refusal (now (file .entry)) ⌝ }
+{
+    let k = header_refusal(file);
+    if k != 0 {
+        return k;
+    }
+    let j = record_refusal(file);
+    if j != 0 {
+        return j;
+    }
+    link_refusal(file)
+}
+
 // Loads a file: refused with the number of the first cause that applies, or loaded with its header.
 pub fn load(file: &[u8]) -> Load
     ensures { λ r. ⌜ r ≡ loadOf (now (file .entry)) ⌝ }
 {
-    let k = header_refusal(file);
+    let k = refusal(file);
     if k != 0 {
         return Load::Refused(k);
-    }
-    let j = body_refusal(file);
-    if j != 0 {
-        return Load::Refused(j);
     }
     Load::Loaded(header(file))
 }
@@ -229,16 +221,16 @@ pub fn number(answer: Load) -> u8
     }
 }
 
-// The number that a call meant for files of this kind gives, or 0 where the file loads and is of this kind.
-pub fn cause(file: &[u8], kind: usize) -> u8
-    ensures { λ r. ⌜ r ≡ causeFor kind (now (file .entry)) ⌝ }
+// The number that a call meant for files of this side gives, or 0 where the file loads and is of this side.
+pub fn cause(file: &[u8], source: bool) -> u8
+    ensures { λ r. ⌜ r ≡ causeFor source (now (file .entry)) ⌝ }
 {
     let answer = load(file);
     let Load::Loaded(h) = answer else {
         return number(answer);
     };
-    let k = h.kind;
-    if k != kind {
+    let own = h.source;
+    if own != source {
         return 11;
     }
     0

@@ -8,17 +8,10 @@ ghost use lib.Dec.{eqb, leb};
 ghost use Rattle.relation.specs.Rel.{nodes};
 ghost use Rattle.models.specs.Graph.{base};
 ghost use Rattle.models.specs.Recording.{ofClass, flagged};
-ghost use Rattle.layout.specs.Layout.{kind, events, links, linkByte, isSource, Sized};
+ghost use Rattle.layout.specs.Layout.{side, events, links, linkByte, Sized};
 ghost use Rattle.layout.specs.Chains.{each};
 ghost use Rattle.layout.specs.Decode.{decode};
 ghost use Rattle.recording.specs.Causes.{readLegal, writeLegal, fenceMode, fenceLegal, legal, eventLegal, sameLocations, rfLegal, coLegal, rmwLegal, fromRead, dataLegal, addrLegal, casdepLegal, linkLegal, linkSound};
-
-// Whether the kind is that of source recordings.
-pub fn is_source(kind: usize) -> bool
-    ensures { λ r. ⌜ r ≡ isSource kind ⌝ }
-{
-    kind == 1
-}
 
 // A read: mode 0 or 1, flag 0 or 1.
 pub fn read_legal(mode: usize, flag: usize) -> bool
@@ -35,20 +28,20 @@ pub fn write_mode(mode: usize) -> bool
 }
 
 // A write has flag 0, or 1 (strong) in a source recording.
-pub fn write_flag(kind: usize, flag: usize) -> bool
-    ensures { λ r. ⌜ r ≡ eqb flag 0 || (eqb flag 1 && isSource kind) ⌝ }
+pub fn write_flag(source: bool, flag: usize) -> bool
+    ensures { λ r. ⌜ r ≡ eqb flag 0 || (eqb flag 1 && source) ⌝ }
 {
     if flag == 0 {
         return true;
     }
-    flag == 1 && is_source(kind)
+    flag == 1 && source
 }
 
 // A write: its mode and its flag.
-pub fn write_legal(kind: usize, mode: usize, flag: usize) -> bool
-    ensures { λ r. ⌜ r ≡ writeLegal kind mode flag ⌝ }
+pub fn write_legal(source: bool, mode: usize, flag: usize) -> bool
+    ensures { λ r. ⌜ r ≡ writeLegal source mode flag ⌝ }
 {
-    write_mode(mode) && write_flag(kind, flag)
+    write_mode(mode) && write_flag(source, flag)
 }
 
 // Whether x is from low to high.
@@ -59,20 +52,20 @@ pub fn between(low: usize, x: usize, high: usize) -> bool
 }
 
 // A fence has mode 1 to 4 in a source recording, 5 or 6 in a chip recording.
-pub fn fence_mode(kind: usize, mode: usize) -> bool
-    ensures { λ r. ⌜ r ≡ fenceMode kind mode ⌝ }
+pub fn fence_mode(source: bool, mode: usize) -> bool
+    ensures { λ r. ⌜ r ≡ fenceMode source mode ⌝ }
 {
-    if is_source(kind) {
+    if source {
         return between(1, mode, 4);
     }
     between(5, mode, 6)
 }
 
 // A fence: its mode, and flag 0.
-pub fn fence_legal(kind: usize, mode: usize, flag: usize) -> bool
-    ensures { λ r. ⌜ r ≡ fenceLegal kind mode flag ⌝ }
+pub fn fence_legal(source: bool, mode: usize, flag: usize) -> bool
+    ensures { λ r. ⌜ r ≡ fenceLegal source mode flag ⌝ }
 {
-    fence_mode(kind, mode) && flag == 0
+    fence_mode(source, mode) && flag == 0
 }
 
 // A fence's location and value.
@@ -84,7 +77,7 @@ pub fn both_zero(location: usize, value: usize) -> bool
 
 // Whether an event's numbers are as the table says.
 pub fn legal(
-    kind: usize,
+    source: bool,
     l: usize,
     class: usize,
     mode: usize,
@@ -92,16 +85,16 @@ pub fn legal(
     location: usize,
     value: usize,
 ) -> bool
-    ensures { λ r. ⌜ r ≡ legal kind l class mode flag location value ⌝ }
+    ensures { λ r. ⌜ r ≡ legal source l class mode flag location value ⌝ }
 {
     if class == 1 {
         return read_legal(mode, flag) && location < l;
     }
     if class == 2 {
-        return write_legal(kind, mode, flag) && location < l;
+        return write_legal(source, mode, flag) && location < l;
     }
     if class == 3 {
-        return fence_legal(kind, mode, flag) && both_zero(location, value);
+        return fence_legal(source, mode, flag) && both_zero(location, value);
     }
     false
 }
@@ -111,13 +104,13 @@ pub fn event_legal(file: &[u8], e: usize) -> bool
     requires { ⌜ Sized (now file) ⌝ }
     ensures { λ r. ⌜ r ≡ eventLegal (now (file .entry)) e ⌝ }
 {
-    let kind = file[0] as usize;
-    let l = file[2] as usize;
+    let source = field::side(file);
+    let l = field::locations(file);
     let class = field::class_of(file, e);
     let mode = field::mode_of(file, e);
     let flag = field::flag_of(file, e);
     legal(
-        kind,
+        source,
         l,
         class,
         mode,
@@ -256,15 +249,15 @@ pub fn addr_legal(file: &[u8], later: bool, a: usize, b: usize) -> bool
 // Whether b is an exclusive read of a source recording.
 pub fn source_exclusive(file: &[u8], b: usize) -> bool
     requires { ⌜ Sized (now file) ⌝ }
-    ensures { λ r. ⌜ r ≡ isSource (kind (now (file .entry))) && flagged (decode (now (file .entry))) 1 b ⌝ }
+    ensures { λ r. ⌜ r ≡ side (now (file .entry)) && flagged (decode (now (file .entry))) 1 b ⌝ }
 {
-    is_source(file[0] as usize) && field::is_flagged(file, b, 1)
+    field::side(file) && field::is_flagged(file, b, 1)
 }
 
-// 7 casdep: read to po-later exclusive read; kind 1 only.
+// 7 casdep: read to po-later exclusive read; source only.
 pub fn casdep_legal(file: &[u8], later: bool, a: usize, b: usize) -> bool
     requires { ⌜ Sized (now file) × (a < 64 → later ≡ base nodes (decode (now file)) .po a b) ⌝ }
-    ensures { λ r. ⌜ r ≡ casdepLegal (decode (now (file .entry))) (kind (now (file .entry))) a b ⌝ }
+    ensures { λ r. ⌜ r ≡ casdepLegal (decode (now (file .entry))) (side (now (file .entry))) a b ⌝ }
 {
     from_read(file, later, a, b) && source_exclusive(file, b)
 }
@@ -272,7 +265,7 @@ pub fn casdep_legal(file: &[u8], later: bool, a: usize, b: usize) -> bool
 // Whether a link of type t may lead from a to b.
 pub fn link_legal(file: &[u8], later: bool, t: usize, a: usize, b: usize) -> bool
     requires { ⌜ Sized (now file) × (a < 64 → later ≡ base nodes (decode (now file)) .po a b) ⌝ }
-    ensures { λ r. ⌜ r ≡ linkLegal (decode (now (file .entry))) (kind (now (file .entry))) t a b ⌝ }
+    ensures { λ r. ⌜ r ≡ linkLegal (decode (now (file .entry))) (side (now (file .entry))) t a b ⌝ }
 {
     if t == 1 {
         return rf_legal(file, a, b);

@@ -4,9 +4,9 @@ pub mod causes;
 pub mod legal;
 pub mod links;
 
-// The header's numbers: kind, N event records, L locations, M link records.
+// What the header says: whether it is a source recording, N event records, L locations, M link records.
 pub struct Header {
-    pub kind: usize,
+    pub source: bool,
     pub events: usize,
     pub locations: usize,
     pub links: usize,

@@ -46,6 +46,10 @@ pub or-right : (a b : Bool) → b ≡ true → a || b ≡ true
 or-right true b e = refl
 or-right false b e = e
 
+pub or-none : (a b : Bool) → a || b ≡ false → (a ≡ false) × (b ≡ false)
+or-none true b p = absurd (false≢true (sym p))
+or-none false b p = (refl, p)
+
 -- `some`: there is an event of the list in the set.
 pub some-sound : (es : List ℕ) (s : Set) → some es s ≡ true → (x : ℕ) × Mem x es × (s x ≡ true)
 unfolding some

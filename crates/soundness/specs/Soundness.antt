@@ -7,15 +7,10 @@ use Prim.Native.Nat.{ℕ}
 use Rattle.relation.specs.Rel.{nodes}
 use Rattle.models.specs.Graph.{base}
 use Rattle.models.specs.Rules.{IMM, ARMv8, verdict}
-use Rattle.layout.specs.Layout.{kind}
+use Rattle.layout.specs.Layout.{source, chip}
 use Rattle.layout.specs.Decode.{decode}
-use Rattle.recording.specs.Causes.{refusal}
-use Rattle.translation.specs.TranslationAnswer.{translation}
-
--- The file loads, and is of that kind: 1 source, 2 chip.
-pub record LoadsAs (k : ℕ) (f : List ℕ) : Type 0 where
-  pub loads : refusal f ≡ 0
-  pub kind-is : kind f ≡ k
+use Rattle.recording.specs.Load.{LoadsAs}
+use Rattle.translation.specs.Translation.{translation}
 
 -- The verdict on the recording that a file holds: 0 allowed, else the number of the first broken rule.
 unfoldable pub immVerdict : List ℕ → ℕ
@@ -26,8 +21,8 @@ armv8Verdict f = verdict nodes (base nodes (decode f)) ARMv8
 
 -- Of a source file that loads: its translation loads as a chip file, and where that is allowed so is the source.
 pub record Sound (f : List ℕ) : Type 0 where
-  pub translation-loads : LoadsAs 2 (translation f)
+  pub translation-loads : LoadsAs chip (translation f)
   pub allowed-back : armv8Verdict (translation f) ≡ 0 → immVerdict f ≡ 0
 
 abbrev pub Soundness : Type 0
-Soundness = (f : List ℕ) → LoadsAs 1 f → Sound f
+Soundness = (f : List ℕ) → LoadsAs source f → Sound f

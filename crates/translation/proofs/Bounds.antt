@@ -15,7 +15,7 @@ use Rattle.layout.specs.Decode.{isRecorded, decode}
 use Rattle.translation.specs.Contents.{contents}
 use Rattle.translation.specs.Translate.{exclusive, strong, newEvents, after, controlled, translated}
 use Rattle.translation.specs.Encode.{isLink, linksUpTo}
-use Rattle.translation.specs.TranslationAnswer.{chip}
+use Rattle.translation.specs.Translation.{chip}
 use Rattle.translation.specs.Parts.{Source}
 use Rattle.relation.proofs.Truth.{is-true, holds}
 use Rattle.recording.proofs.Accepted.{links-sound}
@@ -23,7 +23,7 @@ use Rattle.layout.proofs.ChainFacts.{among-here, among-there, fresh-within, fol
 use Rattle.relation.proofs.Counting.{count-inject, count-double}
 use Rattle.translation.proofs.TranslateLaws.{Flagged, flagged-is, Linked, stays, exclusively, casdep, new-is}
 use Rattle.translation.proofs.EncodedLinks.{LinksFit}
-use Rattle.translation.proofs.SourceFacts.{accepted-source, limits, loads, says, link-source, link-target, flagged-decoded}
+use Rattle.translation.proofs.SourceFacts.{limits, loads, says, link-source, link-target, flagged-decoded}
 
 pub mem-among : (x : ℕ) (l : List ℕ) → Mem x l → among x l ≡ true
 mem-among x _ (here {es = l}) = among-here x x l refl
@@ -100,7 +100,7 @@ module _ (f : List ℕ) (s : Source f) where
   unfolding onceEach
   links-fresh =
       let l = met (links f) (nextLink f) (firstLink f) (events f) in
-      and-left (fresh (links f) [] l) (allMet (links f) l) (links-sound f (accepted-source f s))
+      and-left (fresh (links f) [] l) (allMet (links f) l) (links-sound f (s .loads))
 
   pub recorded-link : (t a b : ℕ) → decode f .link t a b ≡ true → Recorded t a b
   unfolding decode

@@ -10,7 +10,7 @@ use native.Mathlib.Decide.{ℕ-discrete, decLe}
 use borrow.Author.Tests.{leb-true, eqb-true}
 use lib.Dec.{eqb, leb, ltb}
 use Rattle.relation.proofs.Meaning.{and-left, and-right, and-both, or-either}
-use Rattle.layout.specs.Layout.{isSource, kind, locations}
+use Rattle.layout.specs.Layout.{Side, source, chip, side, locations}
 use Rattle.layout.specs.Decode.{decode}
 use Rattle.recording.specs.Causes.{writeLegal, fenceMode, fenceLegal, legal, eventLegal}
 use Rattle.translation.specs.Contents.{Contents}
@@ -21,16 +21,16 @@ use Rattle.translation.proofs.TranslateLaws.{flagged-is}
 use Rattle.translation.proofs.Says.{Says}
 
 -- What the table asks of event e, said of contents.
-unfoldable pub legalAt : ℕ → ℕ → Contents → ℕ → Bool
-legalAt k L c e = legal k L (c .class e) (c .mode e) (c .flag e) (c .location e) (c .low e + 256 * c .high e)
+unfoldable pub legalAt : Side → ℕ → Contents → ℕ → Bool
+legalAt r L c e = legal r L (c .class e) (c .mode e) (c .flag e) (c .location e) (c .low e + 256 * c .high e)
 
-pub legal-says : (f : List ℕ) (c : Contents) → Says (decode f) c → (e : ℕ) → 1 ≤ e → e ≤ c .events → eventLegal f e ≡ legalAt (kind f) (locations f) c e
+pub legal-says : (f : List ℕ) (c : Contents) → Says (decode f) c → (e : ℕ) → 1 ≤ e → e ≤ c .events → eventLegal f e ≡ legalAt (side f) (locations f) c e
 unfolding eventLegal legalAt
 legal-says f c q e h g = rw (q .class e h g, q .mode e h g, q .flag e h g, q .location e h g, q .value e h g)
 
 module _ (L class mode flag location value : ℕ) where
-  legal-write : legal 1 L 2 mode flag location value ≡ true → ((eqb mode 0 || eqb mode 2) && ltb location L ≡ true) × ((flag ≡ 0) ⊎ (flag ≡ 1))
-  unfolding legal writeLegal isSource
+  legal-write : legal source L 2 mode flag location value ≡ true → ((eqb mode 0 || eqb mode 2) && ltb location L ≡ true) × ((flag ≡ 0) ⊎ (flag ≡ 1))
+  unfolding legal writeLegal
   legal-write p =
       let m = eqb mode 0 || eqb mode 2 in
       let f = eqb flag 0 || (eqb flag 1 && true) in
@@ -42,8 +42,8 @@ module _ (L class mode flag location value : ℕ) where
         ],
       )
 
-  legal-fence : legal 1 L 3 mode flag location value ≡ true → (1 ≤ mode) × (mode ≤ 4) × (flag ≡ 0) × (eqb location 0 && eqb value 0 ≡ true)
-  unfolding legal fenceLegal fenceMode isSource
+  legal-fence : legal source L 3 mode flag location value ≡ true → (1 ≤ mode) × (mode ≤ 4) × (flag ≡ 0) × (eqb location 0 && eqb value 0 ≡ true)
+  unfolding legal fenceLegal fenceMode
   legal-fence p =
       let m = leb 1 mode && leb mode 4 in
       let z = eqb location 0 && eqb value 0 in
@@ -52,41 +52,41 @@ module _ (L class mode flag location value : ℕ) where
       (leb-true 1 mode (and-left (leb 1 mode) (leb mode 4) b), leb-true mode 4 (and-right (leb 1 mode) (leb mode 4) b), eqb-true flag 0 (and-right m (eqb flag 0) w), and-right (m && eqb flag 0) z p)
 
   -- In a chip recording.
-  chip-write : (eqb mode 0 || eqb mode 2) && ltb location L ≡ true → legal 2 L 2 mode 0 location value ≡ true
-  unfolding legal writeLegal isSource
+  chip-write : (eqb mode 0 || eqb mode 2) && ltb location L ≡ true → legal chip L 2 mode 0 location value ≡ true
+  unfolding legal writeLegal
   chip-write p =
       let m = eqb mode 0 || eqb mode 2 in
       and-both (m && true) (ltb location L) (and-both m true (and-left m (ltb location L) p) refl) (and-right m (ltb location L) p)
 
-  chip-fence : (mode ≡ 5) ⊎ (mode ≡ 6) → flag ≡ 0 → eqb location 0 && eqb value 0 ≡ true → legal 2 L 3 mode flag location value ≡ true
-  unfolding legal fenceLegal fenceMode isSource
+  chip-fence : (mode ≡ 5) ⊎ (mode ≡ 6) → flag ≡ 0 → eqb location 0 && eqb value 0 ≡ true → legal chip L 3 mode flag location value ≡ true
+  unfolding legal fenceLegal fenceMode
   chip-fence (inl m) e z = rw (m, e) z
   chip-fence (inr m) e z = rw (m, e) z
 
   -- An event of the source: its class is 1, 2 or 3.
-  class-legal : legal 1 L class mode flag location value ≡ true → (class ≡ 1) ⊎ ((class ≡ 2) ⊎ (class ≡ 3))
+  class-legal : legal source L class mode flag location value ≡ true → (class ≡ 1) ⊎ ((class ≡ 2) ⊎ (class ≡ 3))
   unfolding legal
   class-legal = go class
     where
-      go : (n : ℕ) → legal 1 L n mode flag location value ≡ true → (n ≡ 1) ⊎ ((n ≡ 2) ⊎ (n ≡ 3))
+      go : (n : ℕ) → legal source L n mode flag location value ≡ true → (n ≡ 1) ⊎ ((n ≡ 2) ⊎ (n ≡ 3))
       go zero p = absurd (false≢true p)
       go (suc zero) p = inl refl
       go (suc (suc zero)) p = inr (inl refl)
       go (suc (suc (suc zero))) p = inr (inr refl)
       go (suc (suc (suc (suc n)))) p = absurd (false≢true p)
 
-  read-any : (k : ℕ) → legal 1 L 1 mode flag location value ≡ true → legal k L 1 mode flag location value ≡ true
+  read-any : (r : Side) → legal source L 1 mode flag location value ≡ true → legal r L 1 mode flag location value ≡ true
   unfolding legal
-  read-any k p = p
+  read-any r p = p
 
 -- An event of the source, and its translation.
-module _ (L : ℕ) (s : Contents) (e : ℕ) (ok : legalAt 1 L s e ≡ true) where
+module _ (L : ℕ) (s : Contents) (e : ℕ) (ok : legalAt source L s e ≡ true) where
   abbrev value : ℕ
   value = s .low e + 256 * s .high e
 
-  of-class : (k : ℕ) → s .class e ≡ k → legal 1 L k (s .mode e) (s .flag e) (s .location e) value ≡ true
+  of-class : (k : ℕ) → s .class e ≡ k → legal source L k (s .mode e) (s .flag e) (s .location e) value ≡ true
   unfolding legalAt
-  of-class k c = ap (λ (x : ℕ). legal 1 L x (s .mode e) (s .flag e) (s .location e) value) (sym c) ∙ ok
+  of-class k c = ap (λ (x : ℕ). legal source L x (s .mode e) (s .flag e) (s .location e) value) (sym c) ∙ ok
 
   pub fence-modes : s .class e ≡ 3 → (1 ≤ s .mode e) × (s .mode e ≤ 4)
   fence-modes c = (let w = legal-fence L 3 (s .mode e) (s .flag e) (s .location e) value (of-class 3 c) in (w .0, w .1))
@@ -107,11 +107,11 @@ module _ (L : ℕ) (s : Contents) (e : ℕ) (ok : legalAt 1 L s e ≡ true) wher
   new-fence : s .class e ≡ 3 → (newMode s e ≡ 5) ⊎ (newMode s e ≡ 6)
   new-fence c = elim (ℕ-discrete (s .mode e) 1) [ yes x ↦ inl (law.mode-acquire s e c x) | no x ↦ inr (law.mode-other s e c x) ]
 
-  translated-legal : 1 ≤ e → e ≤ s .events → legal 2 L (s .class e) (newMode s e) (newFlag s e) (s .location e) value ≡ true
+  translated-legal : 1 ≤ e → e ≤ s .events → legal chip L (s .class e) (newMode s e) (newFlag s e) (s .location e) value ≡ true
   unfolding legalAt
   translated-legal h g =
       elim (class-legal L (s .class e) (s .mode e) (s .flag e) (s .location e) value ok) [
-        | inl c ↦ rw (c, law.mode-access s e (λ d. omega (arith, c)), not-strong 1 c (λ d. omega arith)) (read-any L 1 (s .mode e) (s .flag e) (s .location e) value 2 (of-class 1 c))
+        | inl c ↦ rw (c, law.mode-access s e (λ d. omega (arith, c)), not-strong 1 c (λ d. omega arith)) (read-any L 1 (s .mode e) (s .flag e) (s .location e) value chip (of-class 1 c))
         | inr w ↦ elim w [
           | inl c ↦ rw (c, law.mode-access s e (λ d. omega (arith, c)), new-flag-zero c h g)
               (chip-write L 2 (s .mode e) 0 (s .location e) value (legal-write L 2 (s .mode e) (s .flag e) (s .location e) value (of-class 2 c) .0))
@@ -121,8 +121,8 @@ module _ (L : ℕ) (s : Contents) (e : ℕ) (ok : legalAt 1 L s e ≡ true) wher
       ]
 
 -- Every event of the translation is legal.
-pub legal-new : (L : ℕ) (s : Contents) → ((e : ℕ) → 1 ≤ e → e ≤ s .events → legalAt 1 L s e ≡ true) → (e : ℕ) → 1 ≤ e → legalAt 2 L (translated s) e ≡ true
-unfolding legalAt translated legal fenceLegal fenceMode isSource
+pub legal-new : (L : ℕ) (s : Contents) → ((e : ℕ) → 1 ≤ e → e ≤ s .events → legalAt source L s e ≡ true) → (e : ℕ) → 1 ≤ e → legalAt chip L (translated s) e ≡ true
+unfolding legalAt translated legal fenceLegal fenceMode
 legal-new L s ok e h =
     elim (decLe e (s .events)) [
       | yes g ↦ rw (law.kept s (s .class) 3 e g, law.kept s (newMode s) 5 e g, law.kept s (newFlag s) 0 e g, law.kept s (s .location) 0 e g, law.kept s (s .low) 0 e g, law.kept s (s .high) 0 e g)

@@ -15,6 +15,7 @@ use Rattle.models.specs.Loads.{Loads}
 use Rattle.models.proofs.Tests.{plus-steps, below-listed}
 use Rattle.models.proofs.MemberLaws.{recorded-event, class-event, flag-class, access-event, step-intro, linked}
 use Rattle.models.proofs.Agree.{agrees}
+use Rattle.layout.specs.Layout.{Side}
 use Rattle.recording.specs.Causes.{sameLocations, rfLegal, coLegal, rmwLegal, fromRead, dataLegal, addrLegal, ctrlLegal, linkLegal, oneSource}
 use Rattle.relation.proofs.Truth.{is-true, holds, is-false}
 
@@ -80,19 +81,19 @@ module _ (r : Recording ℕ) (l : Loads r) (small : (e : ℕ) → T (event r e) 
       and-both (flagged r 1 a && ofClass r 2 b) (r .next a b && sameLocations r a b) (and-both (flagged r 1 a) (ofClass r 2 b) (is-true _ (w .0)) (is-true _ (w .1)))
       (and-both (r .next a b) (sameLocations r a b) (is-true _ (w .2)) (same-place a b (w .3)))
 
-  legal-by : (k t a b : ℕ) → T (r .link t a b) → (1 ≤ t) × (t ≤ 6) → linkLegal r k t a b ≡ true
+  legal-by : (s : Side) (t a b : ℕ) → T (r .link t a b) → (1 ≤ t) × (t ≤ 6) → linkLegal r s t a b ≡ true
   unfolding linkLegal dataLegal addrLegal ctrlLegal
-  legal-by k zero a b h g = absurd (omega (arith, g))
-  legal-by k (suc zero) a b h g = rf-legal a b h
-  legal-by k (suc (suc zero)) a b h g = co-legal a b h
-  legal-by k (suc (suc (suc zero))) a b h g = rmw-legal a b h
-  legal-by k (suc (suc (suc (suc zero)))) a b h g = (let w = l .«data» a b h in and-both (fromRead r a b) (ofClass r 2 b) (from-read a b (w .0) (w .2)) (is-true _ (w .1)))
-  legal-by k (suc (suc (suc (suc (suc zero))))) a b h g = (let w = l .addr a b h in and-both (fromRead r a b) (access r b) (from-read a b (w .0) (w .2)) (is-true _ (w .1)))
-  legal-by k (suc (suc (suc (suc (suc (suc zero)))))) a b h g = (let w = l .ctrl a b h in from-read a b (w .0) (w .1))
-  legal-by k (suc (suc (suc (suc (suc (suc (suc t))))))) a b h g = absurd (omega (arith, g))
+  legal-by s zero a b h g = absurd (omega (arith, g))
+  legal-by s (suc zero) a b h g = rf-legal a b h
+  legal-by s (suc (suc zero)) a b h g = co-legal a b h
+  legal-by s (suc (suc (suc zero))) a b h g = rmw-legal a b h
+  legal-by s (suc (suc (suc (suc zero)))) a b h g = (let w = l .«data» a b h in and-both (fromRead r a b) (ofClass r 2 b) (from-read a b (w .0) (w .2)) (is-true _ (w .1)))
+  legal-by s (suc (suc (suc (suc (suc zero))))) a b h g = (let w = l .addr a b h in and-both (fromRead r a b) (access r b) (from-read a b (w .0) (w .2)) (is-true _ (w .1)))
+  legal-by s (suc (suc (suc (suc (suc (suc zero)))))) a b h g = (let w = l .ctrl a b h in from-read a b (w .0) (w .1))
+  legal-by s (suc (suc (suc (suc (suc (suc (suc t))))))) a b h g = absurd (omega (arith, g))
 
-  pub legal-link : (k t a b : ℕ) → r .link t a b ≡ true → linkLegal r k t a b ≡ true
-  legal-link k t a b e = (let h = holds (r .link t a b) e in legal-by k t a b h (types t a b h))
+  pub legal-link : (s : Side) (t a b : ℕ) → r .link t a b ≡ true → linkLegal r s t a b ≡ true
+  legal-link s t a b e = (let h = holds (r .link t a b) e in legal-by s t a b h (types t a b h))
 
   -- One source per read.
   pub one-source : (b : ℕ) → oneSource r b ≡ true

@@ -26,7 +26,7 @@ use Rattle.recording.proofs.Loaded.{loaded-readable}
 use Rattle.translation.specs.Contents.{Contents, contents}
 use Rattle.translation.specs.Translate.{flagged, exclusive, newEvents, after, follows, controlled, fromExclusive, fromCasdep, newLink, translated}
 use Rattle.translation.specs.Encode.{isLink, linksBefore, linksUpTo}
-use Rattle.translation.specs.TranslationAnswer.{chip}
+use Rattle.translation.specs.Translation.{chip}
 use Rattle.translation.specs.Parts.{Source, NewEvent, RowsInto, Ends, targets, ctrlInto}
 use Rattle.relation.proofs.Counting.{count-add, count-same, count-mono}
 use Rattle.translation.proofs.TranslateLaws as law

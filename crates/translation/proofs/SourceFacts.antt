@@ -10,7 +10,7 @@ use Rattle.relation.proofs.Meaning.{and-left, and-right}
 use Rattle.models.specs.Recording as recording
 use Rattle.models.specs.Recording.{event}
 use Rattle.models.specs.Loads.{Loads}
-use Rattle.layout.specs.Layout.{kind, events, locations, links, threads, linkByte, Sized}
+use Rattle.layout.specs.Layout.{side, events, locations, links, threads, linkByte, Sized}
 use Rattle.layout.specs.Chains.{nextEvent, head, linksInto, fresh, allMet, onceEach, among, threadsUpTo}
 use Rattle.layout.specs.Decode.{isRecorded, decode}
 use Rattle.recording.specs.Causes.{linkLegal}
@@ -18,7 +18,7 @@ use Rattle.layout.proofs.FieldLaws.{recorded-bounds, event-small}
 use Rattle.layout.proofs.ChainLaws.{each-at}
 use Rattle.relation.proofs.Truth.{is-true, holds}
 use Rattle.layout.proofs.ChainFacts.{chain-ended, ended-next, met-cases}
-use Rattle.recording.proofs.Accepted.{Accepted, accepted, threads-sound, legal-link, source-limits, source-sized}
+use Rattle.recording.proofs.Accepted.{threads-sound, legal-link, source-limits, sized as loaded-sized}
 use Rattle.recording.proofs.Loaded as loaded
 use Rattle.translation.specs.Contents.{contents}
 use Rattle.translation.specs.Translate.{flagged}
@@ -26,14 +26,11 @@ use Rattle.translation.specs.Parts.{Source}
 use Rattle.translation.proofs.Says.{Says, contents-say, flagged-says}
 
 module _ (f : List ℕ) (s : Source f) where
-  pub accepted-source : Accepted f
-  accepted-source = accepted f (s .loads)
-
   pub sized : Sized f
-  sized = source-sized f accepted-source (s .source)
+  sized = loaded-sized f (s .loads)
 
   pub limits : (events f ≤ 32) × (locations f ≤ 8) × (links f ≤ 200)
-  limits = source-limits f accepted-source (s .source)
+  limits = source-limits f s
 
   pub few-events : contents f .events < 64
   unfolding contents
@@ -43,8 +40,8 @@ module _ (f : List ℕ) (s : Source f) where
   loads = loaded.loads f (s .loads)
 
   -- Links.
-  pub legal : (t a b : ℕ) → decode f .link t a b ≡ true → linkLegal (decode f) (kind f) t a b ≡ true
-  legal = legal-link f accepted-source
+  pub legal : (t a b : ℕ) → decode f .link t a b ≡ true → linkLegal (decode f) (side f) t a b ≡ true
+  legal = legal-link f (s .loads)
 
   pub link-source : (t a b : ℕ) → decode f .link t a b ≡ true → a < 64
   link-source t a b e =
@@ -59,13 +56,13 @@ module _ (f : List ℕ) (s : Source f) where
   unfolding onceEach
   threads-fresh =
       let l = threadsUpTo f threads in
-      and-left (fresh (events f) [] l) (allMet (events f) l) (threads-sound f accepted-source)
+      and-left (fresh (events f) [] l) (allMet (events f) l) (threads-sound f (s .loads))
 
   pub next-within : (e : ℕ) → 1 ≤ e → e ≤ events f → nextEvent f e ≤ events f
   unfolding onceEach
   next-within e h g =
       let l = threadsUpTo f threads in
-      let m = each-at (events f) (λ x. among x l) (and-right (fresh (events f) [] l) (allMet (events f) l) (threads-sound f accepted-source)) e h g in
+      let m = each-at (events f) (λ x. among x l) (and-right (fresh (events f) [] l) (allMet (events f) l) (threads-sound f (s .loads))) e h g in
       let w = met-cases (events f) (nextEvent f) (head f) threads e m in
       ended-next (events f) (nextEvent f) e (chain-ended (events f) (nextEvent f) (head f) threads (w .0) (w .1) threads-fresh) (w .2)
 

@@ -9,28 +9,22 @@ use Rattle.models.specs.Graph.{base}
 use Rattle.models.specs.Rules.{IMM, ARMv8, verdict}
 use Rattle.models.specs.Translated.{Translated}
 use Rattle.models.proofs.Sound.{verdict-sound}
-use Rattle.layout.specs.Layout.{kind, events, links}
+use Rattle.layout.specs.Layout as layout
+use Rattle.layout.specs.Layout.{events, links}
 use Rattle.layout.specs.Decode.{decode}
-use Rattle.recording.specs.Causes.{refusal}
+use Rattle.recording.specs.Load.{LoadsAs}
 use Rattle.recording.proofs.Loaded as loaded
 use Rattle.translation.specs.Translate.{translated}
-use Rattle.translation.specs.TranslationAnswer.{chip, translation}
+use Rattle.translation.specs.Translation.{chip, translation}
 use Rattle.translation.specs.Parts.{Source}
-use Rattle.translation.proofs.EncodeLaws.{encode-kind, encode-events, encode-links, encode-length}
+use Rattle.translation.proofs.EncodeLaws.{encode-events, encode-links, encode-length}
 use Rattle.translation.proofs.Bounds.{most-events, most-links}
-use Rattle.translation.proofs.TranslationLoads.{translated-relates, translation-accepted}
+use Rattle.translation.proofs.TranslationLoads.{translated-relates, translation-accepted, translation-side}
 
-module _ (f : List ℕ) (loads : refusal f ≡ 0) (source : kind f ≡ 1) where
-  given : Source f
-  given = record { loads = loads; source = source }
-
+module _ (f : List ℕ) (given : Source f) where
   -- Every translation of a recording that loads, loads.
-  pub translation-loads : refusal (translation f) ≡ 0
-  translation-loads = translation-accepted f given
-
-  pub translation-kind : kind (translation f) ≡ 2
-  unfolding translation translated
-  translation-kind = encode-kind (chip f)
+  pub translation-loads : LoadsAs layout.chip (translation f)
+  translation-loads = record { loads = translation-accepted f given; side-is = translation-side f given }
 
   -- "At most 48 events and 232 links arise", so at most 1,320 bytes.
   pub few-events : events (translation f) ≤ 48
@@ -53,5 +47,5 @@ module _ (f : List ℕ) (loads : refusal f ≡ 0) (source : kind f ≡ 1) where
   -- A source recording is allowed by IMM where ARMv8 allows its translation.
   pub translation-sound : verdict nodes (base nodes (decode (translation f))) ARMv8 ≡ 0 → verdict nodes (base nodes (decode f)) IMM ≡ 0
   translation-sound =
-      verdict-sound nodes nodes (decode f) (decode (translation f)) (loaded.loaded-within f loads) (loaded.loaded-within (translation f) translation-loads)
-      (loaded.loads f loads) translation-related
+      verdict-sound nodes nodes (decode f) (decode (translation f)) (loaded.loaded-within f (given .loads)) (loaded.loaded-within (translation f) (translation-loads .loads))
+      (loaded.loads f (given .loads)) translation-related

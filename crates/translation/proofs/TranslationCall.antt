@@ -1,15 +1,16 @@
 -- Laws of the call: that the parts written make up the translation, what is answered of an input, and that what is written is short.
-use mathlib.Core.Path.{_≡_, ap, subst, _∙_}
+use mathlib.Core.Path.{_≡_, sym, ap, subst, _∙_}
 use mathlib.Core.Logic.{inl, inr}
 use mathlib.Core.List.{List, _++_}
 use Prim.Native.Nat.{ℕ, suc, _+_, _-_, _*_, _<_, _≤_}
 use native.Mathlib.Omega.{arith}
 use lib.ListN.{length, take, drop, length-drop}
 use lib.Seq.{take-all}
+use Rattle.layout.specs.Layout.{source}
 use Rattle.recording.specs.Causes.{refusal}
 use Rattle.recording.specs.Load.{causeFor}
 use Rattle.recording.specs.Input.{longest}
-use Rattle.recording.proofs.CauseLaws.{cause-goes-on}
+use Rattle.recording.proofs.CauseLaws.{cause-goes-on, cause-own, cause-early}
 use Rattle.recording.proofs.Longest.{read-of}
 use Rattle.output.specs.Output.{placed, Fills}
 use Rattle.output.specs.declared.Filled.{Filled}
@@ -19,16 +20,12 @@ use Rattle.output.proofs.FillLaws.{fills-short, fills-written, fills-other, fil
 use Rattle.translation.specs.Contents.{contents}
 use Rattle.translation.specs.Translate.{newEvents, translated}
 use Rattle.translation.specs.Encode.{linksUpTo, header, eventRecords, linkRecords, encode}
-use Rattle.translation.specs.TranslationAnswer.{chip, translation}
+use Rattle.translation.specs.Translation.{chip, translation}
 use Rattle.translation.specs.Parts.{Source}
 use Rattle.translation.proofs.EncodeLaws.{header-size, events-length, encode-length}
 use Rattle.translation.proofs.Theorems.{few-bytes}
 
 module _ (f : List ℕ) where
-  -- Where no cause of loading applies and the kind is 1.
-  pub source-of : causeFor 1 f ≡ 0 → Source f
-  source-of p = let w = cause-goes-on 1 f p in record { loads = w .0; source = w .1 }
-
   -- The measured length is the translation's.
   measured : (n m : ℕ) → n ≡ newEvents (contents f) → m ≡ linksUpTo (chip f) n → 8 + 8 * n + 4 * m ≡ length (translation f)
   unfolding translation translated
@@ -36,18 +33,15 @@ module _ (f : List ℕ) where
       let c = chip f in
       omega (arith, encode-length c, p, q ∙ ap (λ (x : ℕ). linksUpTo c x) p)
 
-  pub refused-short : (n m : ℕ) (out : List ℕ) → causeFor 1 f ≡ 0 → n ≡ newEvents (contents f) → m ≡ linksUpTo (chip f) n
-      → length out < 8 + 8 * n + 4 * m → Fills (causeFor 1 f) (translation f) out (Refused 12) out
-  refused-short n m out p u v h = fills-short (causeFor 1 f) (translation f) out p (omega (arith, measured n m u v))
+  pub refused-short : (n m : ℕ) (out : List ℕ) → Source f → n ≡ newEvents (contents f) → m ≡ linksUpTo (chip f) n
+      → length out < 8 + 8 * n + 4 * m → Fills (causeFor source f) (translation f) out (Refused 12) out
+  refused-short n m out p u v h = fills-short (causeFor source f) (translation f) out (cause-own source f p) (omega (arith, measured n m u v))
 
-  -- A translation has at most 1320 bytes, and so has what is written, whatever the room.
-  pub few-translated : causeFor 1 f ≡ 0 → length (translation f) ≤ 1320
-  few-translated p = let s = source-of p in few-bytes f (s .loads) (s .source)
-
-  pub few-written : (out : List ℕ) (r : Filled) (left : List ℕ) → Fills (causeFor 1 f) (translation f) out r left → (n : ℕ) → r ≡ Written n → n ≤ 1320
+  -- What is written has at most 1320 bytes, whatever the room.
+  pub few-written : (out : List ℕ) (r : Filled) (left : List ℕ) → Fills (causeFor source f) (translation f) out r left → (n : ℕ) → r ≡ Written n → n ≤ 1320
   few-written out r left w n q =
-      let v = fills-wrote (causeFor 1 f) (translation f) out r left w n q in
-      omega (arith, v .size, few-translated (v .none))
+      let v = fills-wrote (causeFor source f) (translation f) out r left w n q in
+      omega (arith, v .size, few-bytes f (cause-goes-on source f (v .none)))
 
 -- Behind the header there is room for the events.
 header-length : (f out one : List ℕ) (n m : ℕ) → 8 + 8 * n + 4 * m ≤ length out → one ≡ placed out 0 (header (chip f)) → length one ≡ length out
@@ -58,7 +52,7 @@ header-length f out one n m room first =
 pub events-room : (f out one : List ℕ) (n m : ℕ) → 8 + 8 * n + 4 * m ≤ length out → one ≡ placed out 0 (header (chip f)) → 8 + 8 * n ≤ length one
 events-room f out one n m room first = omega (arith, header-length f out one n m room first)
 
-module _ (f : List ℕ) (out one two part : List ℕ) (n m : ℕ) (p : causeFor 1 f ≡ 0) (u : n ≡ newEvents (contents f))
+module _ (f : List ℕ) (out one two part : List ℕ) (n m : ℕ) (p : Source f) (u : n ≡ newEvents (contents f))
     (v : m ≡ linksUpTo (chip f) n) (room : 8 + 8 * n + 4 * m ≤ length out)
     (first : one ≡ placed out 0 (header (chip f))) (second : two ≡ placed one 8 (eventRecords (chip f) (suc n))) where
   -- The output stays as long as it was.
@@ -91,22 +85,21 @@ module _ (f : List ℕ) (out one two part : List ℕ) (n m : ℕ) (p : causeFor 
       ∙ ap (placed out 0) whole
 
   pub all-written : part ≡ placed (take (length two - (8 + 8 * n)) (drop (8 + 8 * n) two)) 0 (linkRecords (chip f) (512 * suc n))
-      → Fills (causeFor 1 f) (translation f) out (Written (8 + 8 * n + 4 * m)) (take (8 + 8 * n) two ++ (part ++ drop (length two - (8 + 8 * n)) (drop (8 + 8 * n) two)))
+      → Fills (causeFor source f) (translation f) out (Written (8 + 8 * n + 4 * m)) (take (8 + 8 * n) two ++ (part ++ drop (length two - (8 + 8 * n)) (drop (8 + 8 * n) two)))
   all-written third =
       let size = measured f n m u v in
-      fills-written (causeFor 1 f) (translation f) out p (omega (arith, size)) (8 + 8 * n + 4 * m) size _
+      fills-written (causeFor source f) (translation f) out (cause-own source f p) (omega (arith, size)) (8 + 8 * n + 4 * m) size _
       (part-placed two (8 + 8 * n) (linkRecords (chip f) (512 * suc n)) part (omega (arith, sizes .1)) third ∙ placed-whole)
 
 -- A call on what is read of an input answers, and leaves the output, as one on the input.
 pub fills-input : (input start : List ℕ) → start ≡ take (longest + 1) input → (out : List ℕ) (r : Filled) (left : List ℕ)
-    → Fills (causeFor 1 start) (translation start) out r left → Fills (causeFor 1 input) (translation input) out r left
-unfolding causeFor
+    → Fills (causeFor source start) (translation start) out r left → Fills (causeFor source input) (translation input) out r left
 fills-input input start read out r left w =
     elim (read-of input) [
-      | inl e ↦ subst (λ (f : List ℕ). Fills (causeFor 1 f) (translation f) out r left) (read ∙ e) w
-      | inr (n, all, part) ↦ fills-other (causeFor 1 start) (causeFor 1 input) n (translation start) (translation input) out r left
+      | inl e ↦ subst (λ (f : List ℕ). Fills (causeFor source f) (translation f) out r left) (read ∙ e) w
+      | inr (n, all, part) ↦ fills-other (causeFor source start) (causeFor source input) n (translation start) (translation input) out r left
           (refused start n (ap refusal read ∙ part)) (refused input n all) w
     ]
   where
-    refused : (f : List ℕ) (n : ℕ) → refusal f ≡ suc n → causeFor 1 f ≡ suc n
-    refused f n e = rw (e, causeFor)
+    refused : (f : List ℕ) (n : ℕ) → refusal f ≡ suc n → causeFor source f ≡ suc n
+    refused f n e = sym (cause-early source (suc n) f (sym e) (λ z. omega arith))

@@ -16,7 +16,8 @@ use Rattle.models.specs.Loads.{Loads}
 use Rattle.models.specs.Translated.{Translated}
 use Rattle.models.proofs.FromTranslated.{translation-loads}
 use Rattle.models.proofs.MemberLaws.{class-event}
-use Rattle.layout.specs.Layout.{kind, events, locations, threads, isSource, kindKnown, mostEvents, mostLinks, fullLength, linkByte}
+use Rattle.layout.specs.Layout as layout
+use Rattle.layout.specs.Layout.{Side, sideOf, side, events, locations, threads, kindKnown, mostEvents, mostLinks, fullLength, linkByte}
 use Rattle.layout.specs.Chains.{nextEvent, head, follow, chain, met, onceEach, linksInto, allOf}
 use Rattle.layout.specs.Decode.{decode}
 use Rattle.recording.specs.Causes.{eventLegal, legal, linkLegal, linkSound, oneSource, linksSoundAt, pairedAt, headerOver, rfLegal, sameLocations, tooShort, kindUnknown, overLimit, wrongLength, badEvent, badThreads, badChains, badLink, coRing, unpaired, refusal}
@@ -24,10 +25,10 @@ use Rattle.layout.proofs.ChainLaws.{follow-in, follow-over}
 use Rattle.translation.specs.Contents.{Contents, contents}
 use Rattle.translation.specs.Translate.{flagged, strong, newEvents, after, newFlag, translated}
 use Rattle.translation.specs.Encode.{linksBefore, linksUpTo, linkRecord, encode}
-use Rattle.translation.specs.TranslationAnswer.{chip, translation}
+use Rattle.translation.specs.Translation.{chip, translation}
 use Rattle.translation.specs.Parts.{Source}
 use Rattle.relation.proofs.Truth.{is-true, holds, is-false, by-test}
-use Rattle.recording.proofs.Accepted.{Accepted, accepts, each-all, legal-event, threads-sound}
+use Rattle.recording.proofs.Accepted.{accepts, each-all, legal-event, threads-sound}
 use Rattle.translation.proofs.EncodeLaws.{encode-length, encode-full, encode-kind, encode-events, encode-locations, encode-links, encode-head}
 use Rattle.translation.proofs.Runs.{run-all}
 use Rattle.translation.proofs.EncodedLinks.{numbered, link-byte, linksAt, links-at, links-within, links-into, links-sound, on-chain, encoded-link}
@@ -64,9 +65,9 @@ module _ (limit : ℕ) (next next′ : ℕ → ℕ) (same : (x : ℕ) → 1 ≤ 
       ∙ ap (_++_ (met limit next′ start′ n)) (follow-same (suc limit) (start n) ∙ ap (chain limit next′) (e n (omega arith)))
 
 -- rf joins equal values.
-legal-values : (r : Recording ℕ) (k a b : ℕ) → linkLegal r k 1 a b ≡ true → r .value a ≡ r .value b
+legal-values : (r : Recording ℕ) (s : Side) (a b : ℕ) → linkLegal r s 1 a b ≡ true → r .value a ≡ r .value b
 unfolding linkLegal rfLegal
-legal-values r k a b p =
+legal-values r s a b p =
     eqb-true (r .value a) (r .value b) (and-right (sameLocations r a b) (eqb (r .value a) (r .value b)) (and-right (write r a && read r b) (sameLocations r a b && eqb (r .value a) (r .value b)) p))
 
 module _ (f : List ℕ) (s : Source f) where
@@ -92,10 +93,10 @@ module _ (f : List ℕ) (s : Source f) where
   unfolding translated
   chip-says = encode-says (chip f) (links-fit f s) chip-few
 
-  old-legal : (e : ℕ) → 1 ≤ e → e ≤ old .events → legalAt 1 (locations f) old e ≡ true
+  old-legal : (e : ℕ) → 1 ≤ e → e ≤ old .events → legalAt layout.source (locations f) old e ≡ true
   unfolding contents
   old-legal e h g =
-      ap (λ (k : ℕ). legalAt k (locations f) old e) (sym (s .source)) ∙ sym (legal-says f old old-says e h g) ∙ legal-event f (source.accepted-source f s) e h g
+      ap (λ (r : Side). legalAt r (locations f) old e) (sym (s .side-is)) ∙ sym (legal-says f old old-says e h g) ∙ legal-event f (s .loads) e h g
 
   sound : Sound old
   unfolding contents
@@ -126,11 +127,15 @@ module _ (f : List ℕ) (s : Source f) where
   unfolding kindUnknown kindKnown translated
   kind-known = ap (λ (k : ℕ). not (kindKnown k)) (encode-kind (chip f))
 
+  chip-side : side (encode (chip f)) ≡ layout.chip
+  unfolding sideOf translated
+  chip-side = ap sideOf (encode-kind (chip f))
+
   within-limits : overLimit (encode (chip f)) ≡ false
-  unfolding overLimit headerOver mostEvents mostLinks isSource translated contents
+  unfolding overLimit headerOver mostEvents mostLinks translated contents
   within-limits =
       rw (
-        encode-kind (chip f),
+        chip-side,
         encode-events (chip f),
         encode-locations (chip f),
         encode-links (chip f),
@@ -148,7 +153,7 @@ module _ (f : List ℕ) (s : Source f) where
   unfolding badEvent translated contents
   events-legal = ap not (each-all (events (encode (chip f))) (eventLegal (encode (chip f))) (λ e h g.
       legal-says (encode (chip f)) (chip f) chip-says e h (omega (arith, g, encode-events (chip f)))
-      ∙ ap (λ (k : ℕ). legalAt k (locations (encode (chip f))) (chip f) e) (encode-kind (chip f)) ∙ ap (λ (k : ℕ). legalAt 2 k (chip f) e) (encode-locations (chip f))
+      ∙ ap (λ (r : Side). legalAt r (locations (encode (chip f))) (chip f) e) chip-side ∙ ap (λ (k : ℕ). legalAt layout.chip k (chip f) e) (encode-locations (chip f))
       ∙ legal-new (locations f) old old-legal e h))
 
   -- 6: the threads.
@@ -158,7 +163,7 @@ module _ (f : List ℕ) (s : Source f) where
       ap (λ (n : ℕ). not (onceEach n (met n (nextEvent (encode (chip f))) (head (encode (chip f))) threads))) (encode-events (chip f))
       ∙ ap (λ (m : List ℕ). not (onceEach (newEvents old) m))
       (met-same (newEvents old) (nextEvent (encode (chip f))) (after old) (encode-next (chip f)) (head (encode (chip f))) (head f) threads (encode-head (chip f)))
-      ∙ ap not (woven-once (old .events) (newEvents old) (old .next) (after old) (strong old) _ (law.weaves old (source.few-events f s)) (head f) threads (threads-sound f (source.accepted-source f s)))
+      ∙ ap not (woven-once (old .events) (newEvents old) (old .next) (after old) (strong old) _ (law.weaves old (source.few-events f s)) (head f) threads (threads-sound f (s .loads)))
 
   -- 7: the link chains.
   chains-fine : badChains (encode (chip f)) ≡ false
@@ -197,7 +202,7 @@ module _ (f : List ℕ) (s : Source f) where
   values a b h =
       let e = sym (translated-relates .link 1 (omega arith) (omega arith) a b) ∙ is-true (C .link 1 a b) h in
       let w = l .rf a b (holds (S .link 1 a b) e) in
-      same-value a (class-event S 2 a (w .0)) ∙ legal-values S (kind f) a b (source.legal f s 1 a b e) ∙ sym (same-value b (class-event S 1 b (w .1)))
+      same-value a (class-event S 2 a (w .0)) ∙ legal-values S (side f) a b (source.legal f s 1 a b e) ∙ sym (same-value b (class-event S 1 b (w .1)))
 
   link-sound : (b m : ℕ) → b ≤ (chip f) .events → linksBefore (chip f) (512 * b) < m → m ≤ linksUpTo (chip f) b → linkSound (encode (chip f)) b m ≡ true
   unfolding linkSound linkRecord
@@ -207,8 +212,8 @@ module _ (f : List ℕ) (s : Source f) where
       let a = linkByte (encode (chip f)) m 2 in
       let w = numbered (chip f) fit m (omega arith) (omega (arith, links-within (chip f) fit b g)) in
       let is = encoded-link (chip f) fit t a b ∙ on-chain (chip f) fit b m t a g h k refl refl in
-      and-both (linkLegal C (kind (encode (chip f))) t a b) (eqb (linkByte (encode (chip f)) m 3) 0)
-      (legality.legal-link C chip-loads small types values (kind (encode (chip f))) t a b is)
+      and-both (linkLegal C (side (encode (chip f))) t a b) (eqb (linkByte (encode (chip f)) m 3) 0)
+      (legality.legal-link C chip-loads small types values (side (encode (chip f))) t a b is)
       (eq-eqb (linkByte (encode (chip f)) m 3) 0 (link-byte (chip f) fit m 3 w (omega arith)))
 
   links-fine : badLink (encode (chip f)) ≡ false
@@ -249,20 +254,22 @@ module _ (f : List ℕ) (s : Source f) where
   all-paired = ap not (each-all (events (encode (chip f))) (pairedAt (encode (chip f))) (λ e h g.
       or-left (not (strongWrite C e)) (some nodes (inverse (C .link 3) e)) (ap not (none-strong e))))
 
-  pub translated-accepted : Accepted (encode (chip f))
-  translated-accepted = record {
-    cause1 = long-enough;
-    cause2 = kind-known;
-    cause3 = within-limits;
-    cause4 = right-length;
-    cause5 = events-legal;
-    cause6 = threads-fine;
-    cause7 = chains-fine;
-    cause8 = links-fine;
-    cause9 = no-ring;
-    cause10 = all-paired;
-  }
-
   pub translation-accepted : refusal (translation f) ≡ 0
   unfolding translation
-  translation-accepted = accepts (encode (chip f)) translated-accepted
+  translation-accepted =
+      accepts (encode (chip f)) (record {
+        cause1 = long-enough;
+        cause2 = kind-known;
+        cause3 = within-limits;
+        cause4 = right-length;
+        cause5 = events-legal;
+        cause6 = threads-fine;
+        cause7 = chains-fine;
+        cause8 = links-fine;
+        cause9 = no-ring;
+        cause10 = all-paired;
+      })
+
+  pub translation-side : side (translation f) ≡ layout.chip
+  unfolding translation
+  translation-side = chip-side

@@ -18,7 +18,7 @@ use Rattle.output.proofs.OutputLaws.{placed-nil, length-placed, placed-placed}
 use Rattle.translation.specs.Contents.{Contents, contents}
 use Rattle.translation.specs.Translate.{newEvents, after, keptOr, newMode, newFlag, newLink, translated}
 use Rattle.translation.specs.Encode.{chained, records, isLink, linksBefore, linksUpTo, header, eventRecord, linkRecord, eventRecords, linkRecords}
-use Rattle.translation.specs.TranslationAnswer.{chip}
+use Rattle.translation.specs.Translation.{chip}
 use Rattle.translation.specs.Parts.{Source, rowRecord, linkStretch}
 use Rattle.relation.proofs.Counting.{count-le, count-mono, count-yes, count-no, count-lt, count-add, count-same}
 use Rattle.translation.proofs.RecordLaws.{records-yes, records-no, records-length, records-add, records-same}

@@ -2,5 +2,5 @@
 pub mod Contents
 pub mod Translate
 pub mod Encode
-pub mod TranslationAnswer
+pub mod Translation
 pub mod Parts

@@ -7,16 +7,15 @@ use lib.Dec.{leb}
 use lib.ListN.{getD}
 use Rattle.relation.specs.Rel.{Set, Rel, either, inverse, count}
 use Rattle.relation.specs.Bits.{bit}
-use Rattle.layout.specs.Layout.{kind}
-use Rattle.recording.specs.Causes.{refusal}
+use Rattle.layout.specs.Layout.{source}
+use Rattle.recording.specs.Load.{LoadsAs}
 use Rattle.translation.specs.Contents.{Contents, contents}
 use Rattle.translation.specs.Translate.{newEvents, follows, fromExclusive, fromCasdep, newLink, translated}
 use Rattle.translation.specs.Encode.{chained, records, isLink, linkRecord, linksUpTo}
 
 -- A source file that loads.
-pub record Source (f : List ℕ) : Type 0 where
-  pub loads : refusal f ≡ 0
-  pub source : kind f ≡ 1
+abbrev pub Source : List ℕ → Type 0
+Source f = LoadsAs source f
 
 module _ (s : Contents) where
   -- An event of the translation.

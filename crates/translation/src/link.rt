@@ -14,7 +14,7 @@ ghost use Rattle.layout.specs.Layout.{events};
 ghost use Rattle.translation.specs.Contents.{contents};
 ghost use Rattle.translation.specs.Translate.{newEvents, controlled};
 ghost use Rattle.translation.specs.Encode.{linksBefore, linksUpTo};
-ghost use Rattle.translation.specs.TranslationAnswer.{chip};
+ghost use Rattle.translation.specs.Translation.{chip};
 ghost use Rattle.translation.specs.Parts.{Source, NewEvent, Ready, RowsInto, Ends, targets, ctrlInto};
 
 // The event that the ctrl link from the exclusive read r goes to: the one directly after r, or after its write where r has both rmw and

@@ -14,7 +14,7 @@ ghost use Rattle.output.specs.Output.{placed};
 ghost use Rattle.translation.specs.Contents.{contents};
 ghost use Rattle.translation.specs.Translate.{newEvents};
 ghost use Rattle.translation.specs.Encode.{chained, linksBefore, linksUpTo, header, eventRecord, eventRecords, linkRecords, records};
-ghost use Rattle.translation.specs.TranslationAnswer.{chip};
+ghost use Rattle.translation.specs.Translation.{chip};
 ghost use Rattle.translation.specs.Parts.{Source, NewEvent, Ready, Ends, rowRecord, linkStretch};
 
 // The header: kind 2, the new N and M, the old L and heads.

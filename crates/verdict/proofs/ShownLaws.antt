@@ -1,11 +1,10 @@
 -- Laws of the checks of the rules, in order: what they say of the verdict.
 use mathlib.Core.Path.{_≡_, refl, sym, ap, subst, _∙_}
-use mathlib.Core.Bool.{Bool, true, false, false≢true}
+use mathlib.Core.Bool.{true, false, false≢true}
 use mathlib.Core.List.{List, [], _∷_}
-use Prim.Native.Nat.{ℕ, zero, suc, _+_, _<_, _≤_}
+use Prim.Native.Nat.{ℕ, zero, suc, _<_, _≤_}
 use native.Mathlib.Omega.{arith}
 use native.Mathlib.Decide.{decLt}
-use native.Mathlib.Nat.{zero-add}
 use lib.ListN.{length, take}
 use Rattle.relation.specs.Rel.{Set, Rel, some, least, diagonal, plus, nodes}
 use Rattle.relation.specs.Ring.{Ring, RingOrNone, closed}
@@ -17,6 +16,7 @@ use Rattle.relation.proofs.RingMeaning.{plus-closed}
 use Rattle.models.specs.Graph.{Base}
 use Rattle.models.specs.Term.{eval}
 use Rattle.models.specs.Rules.{Model, broken-pair, first, anywhere, unread, unordered, failures, verdict}
+use Rattle.models.proofs.FirstLaws.{at, positive, first-at, none-more}
 use Rattle.verdict.specs.declared.Verdict.{Verdict}
 use Rattle.verdict.specs.Answer.{answers}
 use Rattle.verdict.specs.Shown.{firstOf, secondOf, events, Shown, FirstPair, Says, Hold, Tried, Around}
@@ -66,53 +66,31 @@ diagonal-there : (r : Rel) → some nodes (diagonal r) ≡ true → (x : ℕ) ×
 unfolding diagonal
 diagonal-there r p = let (x, m, h) = some-sound nodes (diagonal r) p in (x, h)
 
--- The test at place k.
-unfoldable pub nth : List Bool → ℕ → Bool
-nth [] k = false
-nth (b ∷ bs) zero = b
-nth (b ∷ bs) (suc k) = nth bs k
-
--- The tests before place k fail: the one at k is the first that passes, or fails too.
-first-at : (n k : ℕ) (bs : List Bool) → first (suc n) (take k bs) ≡ 0 → nth bs k ≡ true → first (suc n) bs ≡ n + suc k
-unfolding first nth
-first-at n k [] h p = absurd (false≢true p)
-first-at n zero (true ∷ bs) h p = omega arith
-first-at n zero (false ∷ bs) h p = absurd (false≢true p)
-first-at n (suc k) (true ∷ bs) h p = absurd (omega (arith, h))
-first-at n (suc k) (false ∷ bs) h p = omega (arith, first-at (suc n) k bs h p)
-
-hold-more : (n k : ℕ) (bs : List Bool) → first (suc n) (take k bs) ≡ 0 → nth bs k ≡ false → first (suc n) (take (suc k) bs) ≡ 0
-unfolding first nth
-hold-more n k [] h p = refl
-hold-more n zero (true ∷ bs) h p = absurd (false≢true (sym p))
-hold-more n zero (false ∷ bs) h p = refl
-hold-more n (suc k) (true ∷ bs) h p = absurd (omega (arith, h))
-hold-more n (suc k) (false ∷ bs) h p = hold-more (suc n) k bs h p
-
 -- Rules 1 to k hold: the next one is the first broken one, or holds too.
 module _ (M : Model) (B : Base) where
   module _ (k : ℕ) (hold : Hold k M B) where
-    broken-rule : nth (failures nodes B M) k ≡ true → verdict nodes B M ≡ suc k
-    unfolding verdict
-    broken-rule p = first-at 0 k (failures nodes B M) hold p ∙ zero-add (suc k)
+    broken-rule : at (failures nodes B M) k .1 ≡ true → verdict nodes B M ≡ at (failures nodes B M) k .0
+    unfolding verdict failures positive
+    broken-rule p = first-at k (failures nodes B M) refl hold p
 
-    pub next-rule : nth (failures nodes B M) k ≡ false → Hold (suc k) M B
-    next-rule p = hold-more 0 k (failures nodes B M) hold p
+    pub next-rule : at (failures nodes B M) k .1 ≡ false → Hold (suc k) M B
+    unfolding failures positive
+    next-rule p = none-more k (failures nodes B M) refl hold p
 
   pub hold-1 : some nodes (unread nodes B) ≡ false → Hold 1 M B
-  unfolding failures nth first
+  unfolding failures at first
   hold-1 p = next-rule 0 refl p
 
   pub hold-2 : Hold 1 M B → anywhere nodes (unordered nodes B) ≡ false → Hold 2 M B
-  unfolding failures nth
+  unfolding failures at
   hold-2 hold p = next-rule 1 hold p
 
   pub hold-3 : Hold 2 M B → some nodes (diagonal (eval nodes (M .coherent) B)) ≡ false → Hold 3 M B
-  unfolding failures nth
+  unfolding failures at
   hold-3 hold p = next-rule 2 hold p
 
   pub hold-4 : Hold 3 M B → anywhere nodes (eval nodes broken-pair B) ≡ false → Hold 4 M B
-  unfolding failures nth
+  unfolding failures at
   hold-4 hold p = next-rule 3 hold p
 
 -- What is shown, by the verdict's number.
@@ -166,7 +144,7 @@ module _ (M : Model) (B : Base) (steps closing : Rel) (v : Verdict) where
       record { broken = λ d. w; holds = λ e. absurd (omega (arith, h, ap (λ (n : ℕ). length (take n (v .at))) e)) }
 
   pub tried-1 : some nodes (unread nodes B) ≡ true → (k : ℕ) → k ≡ least 64 (unread nodes B) → Says v (answers 1) (k ∷ []) → Tried 2 steps closing M B v
-  unfolding failures nth first
+  unfolding failures at first
   tried-1 p k e w =
       found 2 (omega (arith, ap length (w .shows)))
       (shown 1 (broken-rule M B 0 refl p) (w .answer) (w .bound) (broken1 (w .shows ∙ ap (λ (x : ℕ). x ∷ []) e)))
@@ -175,33 +153,33 @@ module _ (M : Model) (B : Base) (steps closing : Rel) (v : Verdict) where
   pair-shown r a b w h = λ i. w .first i ∷ w .second h i ∷ []
 
   pub tried-2 : Hold 1 M B → (a b : ℕ) → FirstPair (unordered nodes B) a b → a < 64 → Says v (answers 2) (a ∷ b ∷ []) → Tried 2 steps closing M B v
-  unfolding failures nth
+  unfolding failures at
   tried-2 hold a b q h w =
       found 2 (omega (arith, ap length (w .shows)))
       (shown 2 (broken-rule M B 1 hold (pair-found _ a b q h)) (w .answer) (w .bound) (broken2 (w .shows ∙ pair-shown _ a b q h)))
 
   pub tried-3 : Hold 2 M B → some nodes (diagonal (eval nodes (M .coherent) B)) ≡ true → Around M B steps closing → v .answer ≡ answers 3 → v .len ≤ 64
       → RingOrNone steps closing (events v) → Tried 3 steps closing M B v
-  unfolding failures nth
+  unfolding failures at
   tried-3 hold p around a b w =
       let (x, h) = diagonal-there _ p in
       let ring = ring-there steps closing (events v) w (around x h) in
       found 3 (omega (arith, ring .inside)) (shown 3 (broken-rule M B 2 hold p) a b (broken3 ring))
 
   pub tried-4 : Hold 3 M B → (a b : ℕ) → FirstPair (eval nodes broken-pair B) a b → a < 64 → Says v (answers 4) (a ∷ b ∷ []) → Tried 4 steps closing M B v
-  unfolding failures nth
+  unfolding failures at
   tried-4 hold a b q h w =
       found 4 (omega (arith, ap length (w .shows)))
       (shown 4 (broken-rule M B 3 hold (pair-found _ a b q h)) (w .answer) (w .bound) (broken4 (w .shows ∙ pair-shown _ a b q h)))
 
   pub shown-5 : Hold 4 M B → Inside (eval nodes (M .order) B) → some nodes (diagonal (plus nodes (eval nodes (M .order) B))) ≡ true
       → v .answer ≡ answers 5 → v .len ≤ 64 → RingOrNone (eval nodes (M .order) B) (eval nodes (M .order) B) (events v) → Shown steps closing M B v
-  unfolding failures nth eval
+  unfolding failures at eval
   shown-5 hold inside p a b w =
       let (x, h) = diagonal-there _ p in
       shown 5 (broken-rule M B 4 hold p) a b (broken5 (ring-there _ _ (events v) w (x, plus-closed _ inside x h)))
 
   pub shown-0 : Hold 4 M B → some nodes (diagonal (plus nodes (eval nodes (M .order) B))) ≡ false
       → Says v (answers 0) (order 64 (eval nodes (M .order) B) (B .E)) → Shown steps closing M B v
-  unfolding verdict failures nth eval
+  unfolding verdict failures at eval
   shown-0 hold p w = shown 0 (next-rule M B 4 hold p) (w .answer) (w .bound) (allowed (w .shows))

@@ -1,10 +1,9 @@
 -- What a verdict says and shows means: the rules of the execution graph; every event exactly once where it is allowed;
 -- and what breaks rule 1, 2 or 4 where it is that.
 use mathlib.Core.Path.{_≡_, refl, sym, ap, subst, _∙_}
-use mathlib.Core.Bool.{Bool, true, false, false≢true}
-use mathlib.Core.List.{List, [], _∷_}
-use mathlib.Core.Logic.{_⊎_, inl, inr, _↔_}
-use Prim.Native.Nat.{ℕ, zero, suc, _+_, _<_, _≤_}
+use mathlib.Core.Bool.{true, false, false≢true}
+use mathlib.Core.Logic.{_↔_}
+use Prim.Native.Nat.{ℕ, zero, suc, _<_, _≤_}
 use native.Mathlib.Omega.{arith}
 use lib.Dec.{T}
 use Rattle.relation.specs.Rel.{Set, Rel, some, least, diagonal, plus, nodes}
@@ -18,35 +17,13 @@ use Rattle.models.specs.Recording.{Recording, event}
 use Rattle.models.specs.Graph.{Base, graph, base, Within}
 use Rattle.models.specs.Term.{Term, eval}
 use Rattle.models.specs.Rules as models
-use Rattle.models.specs.Rules.{Model, broken-pair, first, anywhere, unread, unordered, failures, verdict}
+use Rattle.models.specs.Rules.{Model, broken-pair, anywhere, unread, unordered, failures, verdict}
 use Rattle.models.proofs.Tests.{listed-below}
 use Rattle.models.proofs.Agree.{tests, agrees, recording-verdict, recording-allowed}
 use Rattle.verdict.specs.declared.Verdict.{Verdict}
 use Rattle.verdict.specs.Answer.{answers}
 use Rattle.verdict.specs.Shown.{firstOf, secondOf, events, Shown}
-use Rattle.verdict.proofs.ShownLaws.{nth}
-
-first-from : (n : ℕ) (bs : List Bool) → (first n bs ≡ 0) ⊎ (n ≤ first n bs)
-unfolding first
-first-from n [] = inl refl
-first-from n (true ∷ bs) = inr (omega arith)
-first-from n (false ∷ bs) = elim (first-from (suc n) bs) [ inl e ↦ inl e | inr h ↦ inr (omega arith) ]
-
--- The test that the number names passes, and number 0 says that none does.
-first-passes : (n k : ℕ) (bs : List Bool) → 0 < n → first n bs ≡ n + k → nth bs k ≡ true
-unfolding first nth
-first-passes n k [] h e = absurd (omega arith)
-first-passes n zero (true ∷ bs) h e = refl
-first-passes n (suc k) (true ∷ bs) h e = absurd (omega arith)
-first-passes n zero (false ∷ bs) h e = absurd (elim (first-from (suc n) bs) [ inl q ↦ omega arith | inr q ↦ omega arith ])
-first-passes n (suc k) (false ∷ bs) h e = first-passes (suc n) k bs (omega arith) (omega arith)
-
-first-fails : (n k : ℕ) (bs : List Bool) → 0 < n → first n bs ≡ 0 → nth bs k ≡ false
-unfolding first nth
-first-fails n k [] h e = refl
-first-fails n k (true ∷ bs) h e = absurd (omega arith)
-first-fails n zero (false ∷ bs) h e = refl
-first-fails n (suc k) (false ∷ bs) h e = first-fails (suc n) k bs (omega arith) e
+use Rattle.models.proofs.FirstLaws.{testOf, positive, distinct, named, first-passes, first-fails}
 
 -- The least of a set that has an event is in it.
 least-there : (s : Set) → some nodes s ≡ true → (least 64 s < 64) × (s (least 64 s) ≡ true)
@@ -68,23 +45,23 @@ steps-target inside (more {y = y} {z = z} s h) = inside .target y z h
 module _ (M : Model) (B : Base) where
   -- The smallest read without rf is one.
   pub read-shown : verdict nodes B M ≡ 1 → unread nodes B (least 64 (unread nodes B)) ≡ true
-  unfolding verdict failures nth
-  read-shown e = least-there (unread nodes B) (first-passes 1 0 (failures nodes B M) (omega arith) e) .1
+  unfolding verdict failures testOf named distinct positive
+  read-shown e = least-there (unread nodes B) (first-passes (failures nodes B M) 0 refl e) .1
 
   -- co does not order the two writes that are shown.
   pub writes-shown : verdict nodes B M ≡ 2 → unordered nodes B (firstOf (unordered nodes B)) (secondOf (unordered nodes B)) ≡ true
-  unfolding verdict failures nth
-  writes-shown e = pair-there (unordered nodes B) (first-passes 1 1 (failures nodes B M) (omega arith) e)
+  unfolding verdict failures testOf named distinct positive
+  writes-shown e = pair-there (unordered nodes B) (first-passes (failures nodes B M) 1 refl e)
 
   -- The pair that is shown is an rmw pair that is also fre then coe.
   pub pair-shown : verdict nodes B M ≡ 4 → eval nodes broken-pair B (firstOf (eval nodes broken-pair B)) (secondOf (eval nodes broken-pair B)) ≡ true
-  unfolding verdict failures nth
-  pair-shown e = pair-there (eval nodes broken-pair B) (first-passes 1 3 (failures nodes B M) (omega arith) e)
+  unfolding verdict failures testOf named distinct positive
+  pair-shown e = pair-there (eval nodes broken-pair B) (first-passes (failures nodes B M) 3 refl e)
 
   -- An allowed verdict shows every event exactly once.
   all-shown : (steps closing : Rel) (v : Verdict) → Shown steps closing M B v → verdict nodes B M ≡ 0 → Inside (eval nodes (M .order) B)
       → ((j : ℕ) → 64 ≤ j → B .E j ≡ false) → EachOnce (B .E) (events v)
-  unfolding verdict failures nth eval diagonal
+  unfolding verdict failures testOf named distinct positive eval diagonal
   all-shown steps closing v w e inside high =
       subst (EachOnce (B .E)) (sym (w .allowed e)) (each-once (eval nodes (M .order) B) inside acyclic (B .E) high)
     where
@@ -92,7 +69,7 @@ module _ (M : Model) (B : Base) where
       acyclic y =
           is-false (plus nodes (eval nodes (M .order) B) y y)
           (λ q. false≢true
-          (sym (first-fails 1 4 (failures nodes B M) (omega arith) e)
+          (sym (first-fails (failures nodes B M) refl e 5)
           ∙ some-complete nodes (diagonal (plus nodes (eval nodes (M .order) B))) y (mem-below 64 y (steps-target inside (plus-sound nodes _ y y q))) q))
 
 -- The events of a recording are below 64, and every term relates events.

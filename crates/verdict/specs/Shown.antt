@@ -58,7 +58,7 @@ pub record Says (v : Verdict) (a : Answer) (l : List ℕ) : Type 0 where
 
 -- Rules 1 to k of the model M hold over B.
 abbrev pub Hold : ℕ → Model → Base → Type 0
-Hold k M B = first 1 (take k (failures nodes B M)) ≡ 0
+Hold k M B = first (take k (failures nodes B M)) ≡ 0
 
 -- v is what is found where rules up to k are tried: the verdict where one is broken; else no event, and they hold.
 pub record Tried (k : ℕ) (steps closing : Rel) (M : Model) (B : Base) (v : Verdict) : Type 0 where

@@ -6,15 +6,6 @@ use borrow.Author.Needs.{needs}
 use Rattle.execution.proofs.control.Statement.{statement}
 use Rattle.execution.proofs.control.Tie as tie
 
-events-requires : tie.Need-events-requires
-events-requires c κs = search needs
-
-optional-requires : tie.Need-optional-requires
-optional-requires c κs = search needs
-
-then-requires : tie.Need-then-requires
-then-requires c κs = search needs
-
 returns : tie.Need-returns
 unfolding base
 returns c =
@@ -22,4 +13,4 @@ returns c =
     c .then .ensures ∙ ap₂ (compose nodes) (start .pre .2) (c .before .optional .ensures ∙ ap₂ optional (c .before .before .events .ensures) (start .pre .1))
 
 pub control-spec : {M : Type 1} → statement M
-control-spec = tie.close (tie.spec events-requires optional-requires then-requires returns)
+control-spec = tie.close (tie.spec (λ c κs. search needs) (λ c κs. search needs) (λ c κs. search needs) returns)

@@ -3,23 +3,20 @@ use mathlib.Core.Path.{ap₂, _∙_}
 use Rattle.relation.specs.Rel.{union}
 use Rattle.models.specs.Recording.{event}
 use Rattle.layout.specs.Decode.{decode}
-use Rattle.recording.proofs.Loaded.{loaded-sized}
+use Rattle.recording.proofs.Accepted.{sized}
 use borrow.Author.Needs.{needs}
 use Rattle.execution.proofs.events.Statement.{statement}
 use Rattle.execution.proofs.events.Tie as tie
 
 initial-requires : tie.Need-initial-requires
-initial-requires c κs = search (needs, loaded-sized)
+initial-requires c κs = search (needs, sized)
 
 recorded-requires : tie.Need-recorded-requires
-recorded-requires c κs = search (needs, loaded-sized)
-
-or-requires : tie.Need-or-requires
-or-requires c κs = search needs
+recorded-requires c κs = search (needs, sized)
 
 returns : tie.Need-returns
 unfolding event union decode
 returns c = c .or .ensures ∙ ap₂ union (c .before .before .initial .ensures) (c .before .recorded .ensures)
 
 pub events-spec : {M : Type 1} → statement M
-events-spec = tie.close (tie.spec initial-requires recorded-requires or-requires returns)
+events-spec = tie.close (tie.spec initial-requires recorded-requires (λ c κs. search needs) returns)

@@ -1,23 +1,24 @@
 -- `relations` meets its contract, place by place.
 use native.Mathlib.Omega.{arith}
 use Rattle.models.specs.Graph.{base}
-use Rattle.recording.proofs.Loaded.{loaded-sized, loaded-readable, loaded-located, loaded-threads}
+use Rattle.recording.proofs.Accepted.{sized, threads-sound}
+use Rattle.recording.proofs.Loaded.{loaded-readable, loaded-located}
 use Rattle.execution.proofs.BaseOf.{links-of}
 use borrow.Author.Needs.{needs}
 use Rattle.execution.proofs.relations.Statement.{statement}
 use Rattle.execution.proofs.relations.Tie as tie
 
 same-location-requires : tie.Need-same-location-requires
-same-location-requires c κs = search (needs, loaded-sized, loaded-located)
+same-location-requires c κs = search (needs, sized, loaded-located)
 
 program-order-requires : tie.Need-program-order-requires
-program-order-requires c κs = search (needs, loaded-sized, loaded-threads)
+program-order-requires c κs = search (needs, sized, threads-sound)
 
 rows-by-type-requires : tie.Need-rows-by-type-requires
 rows-by-type-requires c κs = search (needs, loaded-readable)
 
 coherence-requires : tie.Need-coherence-requires
-coherence-requires c κs = (loaded-sized _ (c .before .before .before .before .before .before .before .before .pre), links-of _ _ (c .before .before .before .before .rows-by-type .ensures) 2 (omega arith) (omega arith) _ (c .inverse2 .ensures), c .before .before .before .before .before .before .same-location .ensures)
+coherence-requires c κs = (sized _ (c .before .before .before .before .before .before .before .before .pre), links-of _ _ (c .before .before .before .before .rows-by-type .ensures) 2 (omega arith) (omega arith) _ (c .inverse2 .ensures), c .before .before .before .before .before .before .same-location .ensures)
 
 control-requires : tie.Need-control-requires
 control-requires c κs = (c .before .before .before .before .before .before .before .before .before .before .before .before .before .before .before .before .before .pre, c .before .before .before .before .before .before .before .before .before .before .before .before .before .before .program-order .ensures, links-of _ _ (c .before .before .before .before .before .before .before .before .before .before .before .before .before .rows-by-type .ensures) 6 (omega arith) (omega arith) _ (c .inverse6 .ensures))

@@ -3,45 +3,45 @@ use mathlib.Core.Path.{refl, ap₂, _∙_}
 use Rattle.relation.specs.Rel.{union}
 use Rattle.models.specs.Recording.{event, acquireFence, releaseFence, R, W, F, Racq, Rex, Wrel, Wstrong, Facq, Frel, Fsc, Fld, Fsy}
 use Rattle.layout.specs.Decode.{decode}
-use Rattle.recording.proofs.Loaded.{loaded-sized}
+use Rattle.recording.proofs.Accepted.{sized}
 use Rattle.reading.proofs.SortLaws.{all-recorded, class-recorded, sorted-class, sorted-writes, sorted-mode, sorted-flag, union-three}
 use borrow.Author.Needs.{needs}
 use Rattle.execution.proofs.sets.Statement.{statement}
 use Rattle.execution.proofs.sets.Tie as tie
 
 initial-requires : tie.Need-initial-requires
-initial-requires c κs = search (needs, loaded-sized)
+initial-requires c κs = search (needs, sized)
 
 recorded-requires : tie.Need-recorded-requires
-recorded-requires c κs = search (needs, loaded-sized)
+recorded-requires c κs = search (needs, sized)
 
 sorted-requires : tie.Need-sorted-requires
-sorted-requires c κs = search (needs, loaded-sized, all-recorded)
+sorted-requires c κs = search (needs, sized, all-recorded)
 
 sorted-requires-2 : tie.Need-sorted-requires-2
 sorted-requires-2 c κs =
     let classes = c .before in
-    (loaded-sized _ (classes .before .before .before .before .pre), search needs, class-recorded _ _ (classes .before .recorded .ensures) _ (classes .sorted .ensures) 1 (search needs))
+    (sized _ (classes .before .before .before .before .pre), search needs, class-recorded _ _ (classes .before .recorded .ensures) _ (classes .sorted .ensures) 1 (search needs))
 
 sorted-requires-3 : tie.Need-sorted-requires-3
 sorted-requires-3 c κs =
     let classes = c .before .before .before in
-    (loaded-sized _ (classes .before .before .before .before .pre), search needs, class-recorded _ _ (classes .before .recorded .ensures) _ (classes .sorted .ensures) 1 (search needs))
+    (sized _ (classes .before .before .before .before .pre), search needs, class-recorded _ _ (classes .before .recorded .ensures) _ (classes .sorted .ensures) 1 (search needs))
 
 sorted-requires-4 : tie.Need-sorted-requires-4
 sorted-requires-4 c κs =
     let classes = c .before .before .before .before .before in
-    (loaded-sized _ (classes .before .before .before .before .pre), search needs, class-recorded _ _ (classes .before .recorded .ensures) _ (classes .sorted .ensures) 2 (search needs))
+    (sized _ (classes .before .before .before .before .pre), search needs, class-recorded _ _ (classes .before .recorded .ensures) _ (classes .sorted .ensures) 2 (search needs))
 
 sorted-requires-5 : tie.Need-sorted-requires-5
 sorted-requires-5 c κs =
     let classes = c .before .before .before .before .before .before .before in
-    (loaded-sized _ (classes .before .before .before .before .pre), search needs, class-recorded _ _ (classes .before .recorded .ensures) _ (classes .sorted .ensures) 2 (search needs))
+    (sized _ (classes .before .before .before .before .pre), search needs, class-recorded _ _ (classes .before .recorded .ensures) _ (classes .sorted .ensures) 2 (search needs))
 
 sorted-requires-6 : tie.Need-sorted-requires-6
 sorted-requires-6 c κs =
     let classes = c .before .before .before .before .before .before .before .before .before in
-    (loaded-sized _ (classes .before .before .before .before .pre), search needs, class-recorded _ _ (classes .before .recorded .ensures) _ (classes .sorted .ensures) 3 (search needs))
+    (sized _ (classes .before .before .before .before .pre), search needs, class-recorded _ _ (classes .before .recorded .ensures) _ (classes .sorted .ensures) 3 (search needs))
 
 returns : tie.Need-returns
 unfolding event decode union acquireFence releaseFence
@@ -59,11 +59,11 @@ returns c =
     let classes = reads .before .before in
     let recorded = classes .before .recorded .ensures in
     let initial = classes .before .before .initial .ensures in
-    let sized = loaded-sized _ (classes .before .before .before .before .pre) in
+    let fits = sized _ (classes .before .before .before .before .pre) in
     let sorted = classes .sorted .ensures in
-    let class = sorted-class _ _ recorded _ sorted sized in
-    let mode = sorted-mode _ _ recorded _ sorted sized in
-    let flag = sorted-flag _ _ recorded _ sorted sized in
+    let class = sorted-class _ _ recorded _ sorted fits in
+    let mode = sorted-mode _ _ recorded _ sorted fits in
+    let flag = sorted-flag _ _ recorded _ sorted fits in
     let fence = mode 3 (search needs) _ (fences .sorted6 .ensures) in
     let two = both .or .ensures ∙ ap₂ union (fence 3 (search needs) (search needs)) (fence 4 (search needs) (search needs)) in
     record {
@@ -71,7 +71,7 @@ returns c =
       initial = initial;
       named = elim [
         | R ↦ class 1 (search needs) refl
-        | W ↦ sorted-writes _ _ recorded _ sorted sized _ _ initial (all-writes .or3 .ensures)
+        | W ↦ sorted-writes _ _ recorded _ sorted fits _ _ initial (all-writes .or3 .ensures)
         | F ↦ class 3 (search needs) refl
         | Racq ↦ mode 1 (search needs) _ (reads .sorted2 .ensures) 1 (search needs) (search needs)
         | Rex ↦ flag 1 (search needs) _ (exclusive .sorted3 .ensures)

@@ -4,9 +4,10 @@ use mathlib.Core.List.{List}
 use Prim.Native.Nat.{ℕ}
 use denote.Ref.{now}
 use lib.ListN.{length}
+use Rattle.layout.specs.Layout.{source}
 use Rattle.recording.specs.Load.{causeFor}
 use Rattle.output.proofs.FillLaws.{Wrote, fills-wrote}
-use Rattle.translation.specs.TranslationAnswer.{translation}
+use Rattle.translation.specs.Translation.{translation}
 use Rattle.judgement.proofs.ChipLaws.{not-refused, chip-loads, chip-judged}
 use borrow.Author.Needs.{needs}
 use Rattle.judgement.proofs.chip.Statement.{statement}
@@ -20,7 +21,7 @@ file-of c = now (c .before .before .before .before .before .before .before .args
 
 -- The bytes that were written.
 wrote : (c : tie.After-known-told2)
-    → Wrote (causeFor 1 (file-of c)) (translation (file-of c)) (c .before .n .given .0 .0) (c .before .before .before .before .written .last .1 .0)
+    → Wrote (causeFor source (file-of c)) (translation (file-of c)) (c .before .n .given .0 .0) (c .before .before .before .before .written .last .1 .0)
 wrote c = fills-wrote _ _ _ _ _ (c .before .before .before .before .written .ensures) _ (c .before .n .given .1)
 
 array-share-prefix-bytes : tie.Need-array-share-prefix-bytes

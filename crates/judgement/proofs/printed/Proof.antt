@@ -1,6 +1,7 @@
--- `printed` meets its contract: by what loading answers, and by the kind.
+-- `printed` meets its contract: by what loading answers, and by the side.
 use mathlib.Core.Path.{_∙_}
-use Rattle.judgement.proofs.PrintLaws.{refusal-line, own-kind, other-kind, source-lines, chip-line}
+use Rattle.recording.proofs.CauseLaws.{loaded-side}
+use Rattle.judgement.proofs.PrintLaws.{refusal-line, source-lines, chip-line}
 use borrow.Author.Needs.{needs}
 use Rattle.judgement.proofs.printed.Statement.{statement}
 use Rattle.judgement.proofs.printed.Tie as tie
@@ -18,7 +19,7 @@ returns c =
     )
 
 both-requires : tie.Need-both-requires
-both-requires c κs = own-kind _ _ (c .before .before .before .before .load .ensures) _ (c .before .before .answer .given .1) 1 (c .if1 .taken)
+both-requires c κs = loaded-side _ _ _ _ (c .before .before .before .before .load .ensures) (c .before .before .answer .given .1) (c .if1 .taken)
 
 line-requires-2 : tie.Need-line-requires-2
 line-requires-2 c κs = c .both .ensures .0 .shown .bound
@@ -37,9 +38,7 @@ returns-2 c =
 
 loaded-requires : tie.Need-loaded-requires
 loaded-requires c κs =
-    let load = c .before .before .before .before .load .ensures in
-    let given = c .before .before .answer .given .1 in
-    own-kind _ _ load _ given 2 (other-kind _ _ load _ given (c .if1 .left))
+    loaded-side _ _ _ _ (c .before .before .before .before .load .ensures) (c .before .before .answer .given .1) (c .if1 .left)
 
 line-requires-4 : tie.Need-line-requires-4
 line-requires-4 c κs = c .loaded .ensures .shown .bound
@@ -47,10 +46,8 @@ line-requires-4 c κs = c .loaded .ensures .shown .bound
 returns-3 : tie.Need-returns-3
 returns-3 c =
     let v = c .before .before in
-    let chip = v .before in
-    let load = chip .before .before .before .before .load .ensures in
-    let given = chip .before .before .answer .given .1 in (
-      chip-line _ _ load _ given (other-kind _ _ load _ given (chip .if1 .left)) _ _ (v .loaded .ensures) (c .single2 .ensures .0 ∙ c .before .line4 .ensures .0),
+    let chip = v .before in (
+      chip-line _ _ (chip .before .before .before .before .load .ensures) _ (chip .before .before .answer .given .1) (chip .if1 .left) _ _ (v .loaded .ensures) (c .single2 .ensures .0 ∙ c .before .line4 .ensures .0),
       c .single2 .ensures .1,
     )
 

@@ -4,14 +4,8 @@ use borrow.Author.Needs.{needs}
 use Rattle.lines.proofs.put_number.Statement.{statement}
 use Rattle.lines.proofs.put_number.Tie as tie
 
-put-requires : tie.Need-put-requires
-put-requires c κs = search needs
-
-put-decimal-requires : tie.Need-put-decimal-requires
-put-decimal-requires c κs = search needs
-
 returns : tie.Need-returns
 returns c = let p = put-then (c .before .put .ensures) (c .put-decimal .ensures) in (p, number-short (c .before .before .args .n) p)
 
 pub put-number-spec : {M : Type 1} → statement M
-put-number-spec = tie.close (tie.spec put-requires put-decimal-requires returns)
+put-number-spec = tie.close (tie.spec (λ c κs. search needs) (λ c κs. search needs) returns)

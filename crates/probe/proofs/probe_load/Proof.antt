@@ -8,17 +8,8 @@ use borrow.Author.Needs.{needs}
 use Rattle.probe.proofs.probe_load.Statement.{statement}
 use Rattle.probe.proofs.probe_load.Tie as tie
 
-load-requires : tie.Need-load-requires
-load-requires c κs = search needs
-
-number-requires : tie.Need-number-requires
-number-requires c κs = search needs
-
-coded-requires : tie.Need-coded-requires
-coded-requires c κs = search needs
-
 returns : tie.Need-returns
 returns c = c .coded .ensures ∙ ap (λ (k : ℕ). coded k 0 0) (c .before .number .ensures ∙ ap numberOf (c .before .before .load .ensures) ∙ load-number _)
 
 pub probe-load-spec : {M : Type 1} → statement M
-probe-load-spec = tie.close (tie.spec load-requires number-requires coded-requires returns)
+probe-load-spec = tie.close (tie.spec (λ c κs. search needs) (λ c κs. search needs) (λ c κs. search needs) returns)

@@ -1,5 +1,6 @@
 -- `translate` meets its contract: refused as loading says, or written.
 use mathlib.Core.Path.{sym, _∙_}
+use Rattle.recording.proofs.CauseLaws.{cause-goes-on}
 use Rattle.output.proofs.FillLaws.{fills-refused}
 use borrow.Author.Needs.{needs}
 use Rattle.translation.proofs.translate.Statement.{statement}
@@ -9,7 +10,7 @@ returns : tie.Need-returns
 returns c = fills-refused _ _ _ _ (c .before .cause .ensures) (c .if1 .taken)
 
 written-requires : tie.Need-written-requires
-written-requires c κs = sym (c .before .before .cause .ensures) ∙ c .before .if1 .left
+written-requires c κs = cause-goes-on _ _ (sym (c .before .before .cause .ensures) ∙ c .before .if1 .left)
 
 returns-2 : tie.Need-returns-2
 returns-2 c = c .before .before .written .ensures

@@ -3,26 +3,26 @@ use mathlib.Core.Path.{ap, _∙_}
 use mathlib.Core.List.{[]}
 use native.Mathlib.Omega.{arith}
 use Rattle.output.specs.Output.{placed}
-use Rattle.translation.proofs.TranslationCall.{source-of, refused-short, events-room, links-part, all-written}
+use Rattle.translation.proofs.TranslationCall.{refused-short, events-room, links-part, all-written}
 use Rattle.translation.proofs.LinkRows.{ends-few}
 use borrow.Author.Needs.{needs}
 use Rattle.translation.proofs.written.Statement.{statement}
 use Rattle.translation.proofs.written.Tie as tie
 
 ctrl-requires : tie.Need-ctrl-requires
-ctrl-requires c κs = source-of _ (c .before .before .pre)
+ctrl-requires c κs = c .before .before .pre
 
 new-events-requires : tie.Need-new-events-requires
-new-events-requires c κs = source-of _ (c .before .before .before .pre)
+new-events-requires c κs = c .before .before .before .pre
 
 ends-requires : tie.Need-ends-requires
-ends-requires c κs = (record { source = source-of _ (c .before .before .before .before .pre); grid = c .before .ctrl .ensures }, c .new-events .ensures .0)
+ends-requires c κs = (record { source = c .before .before .before .before .pre; grid = c .before .ctrl .ensures }, c .new-events .ensures .0)
 
 mul-length : tie.Need-mul-length
-mul-length c = (let few = ends-few _ _ (source-of _ (c .before .before .before .before .before .pre)) _ (c .before .new-events .result) (c .ends .ensures) (omega arith) in omega (arith, few))
+mul-length c = (let few = ends-few _ _ (c .before .before .before .before .before .pre) _ (c .before .new-events .result) (c .ends .ensures) (omega arith) in omega (arith, few))
 
 add-length : tie.Need-add-length
-add-length c = (let few = ends-few _ _ (source-of _ (c .before .before .before .before .before .pre)) _ (c .before .new-events .result) (c .ends .ensures) (omega arith) in omega (arith, few, c .before .new-events .ensures .1))
+add-length c = (let few = ends-few _ _ (c .before .before .before .before .before .pre) _ (c .before .new-events .result) (c .ends .ensures) (omega arith) in omega (arith, few, c .before .new-events .ensures .1))
 
 returns : tie.Need-returns
 returns c =
@@ -34,14 +34,14 @@ header-requires : tie.Need-header-requires
 header-requires c κs =
     let counted = c .before in
     let start = counted .before .before .before .before .before in
-    (source-of _ (start .pre), counted .before .new-events .ensures .0, (counted .ends .ensures .upto _ (omega arith)))
+    (start .pre, counted .before .new-events .ensures .0, (counted .ends .ensures .upto _ (omega arith)))
 
 write-events-requires : tie.Need-write-events-requires
 write-events-requires c κs =
     let enough = c .before .before .before .before .before .before .before in
     let counted = enough .before in
     let start = counted .before .before .before .before .before in (
-      source-of _ (start .pre),
+      start .pre,
       counted .ends .ensures,
       counted .before .new-events .ensures .0,
       events-room _ _ _ _ _ (enough .if1 .left) (c .before .before .before .put .ensures ∙ ap (placed _ 0) (c .before .before .before .before .before .before .header .ensures)),
@@ -55,7 +55,7 @@ write-links-requires c κs =
     let counted = enough .before in
     let start = counted .before .before .before .before .before in (
       counted .ends .ensures,
-      record { source = source-of _ (start .pre); grid = counted .before .before .ctrl .ensures },
+      record { source = start .pre; grid = counted .before .before .ctrl .ensures },
       counted .before .new-events .ensures .0,
       links-part _ _ _ _ [] _ _ (start .pre) (counted .before .new-events .ensures .0) (counted .ends .ensures .upto _ (omega arith)) (enough .if1 .left)
           (put .put .ensures ∙ ap (placed _ 0) (made .header .ensures)) (c .before .before .before .write-events .ensures),

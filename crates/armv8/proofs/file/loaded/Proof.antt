@@ -1,5 +1,4 @@
 -- `file::loaded` meets its contract: judged by the arrays of its execution.
-use Rattle.recording.proofs.CauseLaws.{cause-goes-on}
 use Rattle.execution.proofs.BaseOf.{on-recording}
 use Rattle.armv8.specs.Judged.{Judged}
 use borrow.Author.Needs.{needs}
@@ -7,18 +6,15 @@ use Rattle.armv8.proofs.file.loaded.Statement.{statement}
 use Rattle.armv8.proofs.file.loaded.Tie as tie
 
 sets-requires : tie.Need-sets-requires
-sets-requires c κs = cause-goes-on 2 _ (c .before .pre) .0
+sets-requires c κs = c .before .pre .loads
 
 relations-requires : tie.Need-relations-requires
-relations-requires c κs = cause-goes-on 2 _ (c .before .before .pre) .0
-
-judge-requires : tie.Need-judge-requires
-judge-requires c κs = search needs
+relations-requires c κs = c .before .before .pre .loads
 
 returns : tie.Need-returns
 returns c =
-    on-recording _ Judged _ _ (cause-goes-on 2 _ (c .before .before .before .before .pre) .0) (λ B j. j .answer) _ _
+    on-recording _ Judged _ _ (c .before .before .before .before .pre .loads) (λ B j. j .answer) _ _
     (c .before .before .sets .ensures) (c .before .relations .ensures) (c .judge .ensures)
 
 pub loaded-spec : {M : Type 1} → statement M
-loaded-spec = tie.close (tie.spec sets-requires relations-requires judge-requires returns)
+loaded-spec = tie.close (tie.spec sets-requires relations-requires (λ c κs. search needs) returns)

@@ -6,18 +6,6 @@ use borrow.Author.Needs.{needs}
 use Rattle.armv8.proofs.ob.aob.Statement.{statement}
 use Rattle.armv8.proofs.ob.aob.Tie as tie
 
-image-requires : tie.Need-image-requires
-image-requires c κs = search needs
-
-into-requires : tie.Need-into-requires
-into-requires c κs = search needs
-
-from-requires : tie.Need-from-requires
-from-requires c κs = search needs
-
-or-requires : tie.Need-or-requires
-or-requires c κs = search needs
-
 returns : tie.Need-returns
 unfolding eval
 returns c =
@@ -27,4 +15,4 @@ returns c =
     (is-from-codom _ e (given m) (after-into .before .image .ensures) (is-into _ q (given i) (after-into .into .ensures)) (c .before .from .ensures)) (c .or .ensures))
 
 pub aob-spec : {M : Type 1} → statement M
-aob-spec = tie.close (tie.spec image-requires into-requires from-requires or-requires returns)
+aob-spec = tie.close (tie.spec (λ c κs. search needs) (λ c κs. search needs) (λ c κs. search needs) (λ c κs. search needs) returns)

@@ -10,21 +10,6 @@ use borrow.Author.Needs.{needs}
 use Rattle.armv8.proofs.ob.fenced.Statement.{statement}
 use Rattle.armv8.proofs.ob.fenced.Tie as tie
 
-into-requires : tie.Need-into-requires
-into-requires c κs = search needs
-
-from-requires : tie.Need-from-requires
-from-requires c κs = search needs
-
-into-requires-2 : tie.Need-into-requires-2
-into-requires-2 c κs = search needs
-
-or-requires : tie.Need-or-requires
-or-requires c κs = search needs
-
-then-requires : tie.Need-then-requires
-then-requires c κs = search needs
-
 returns : tie.Need-returns
 unfolding eval
 returns c =
@@ -40,4 +25,4 @@ returns c =
 pub fenced-spec : {M : Type 1} → statement M
 fenced-spec =
     tie.close
-    (tie.spec into-requires from-requires into-requires-2 or-requires then-requires returns)
+    (tie.spec (λ c κs. search needs) (λ c κs. search needs) (λ c κs. search needs) (λ c κs. search needs) (λ c κs. search needs) returns)

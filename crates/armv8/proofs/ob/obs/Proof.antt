@@ -5,14 +5,8 @@ use borrow.Author.Needs.{needs}
 use Rattle.armv8.proofs.ob.obs.Statement.{statement}
 use Rattle.armv8.proofs.ob.obs.Tie as tie
 
-or-requires : tie.Need-or-requires
-or-requires c κs = search needs
-
-or-requires-2 : tie.Need-or-requires-2
-or-requires-2 c κs = search needs
-
 returns : tie.Need-returns
 returns c = λ B x f k. holds B obs (is-union (is-union (given x) (given f) (c .before .or .ensures)) (given k) (c .or2 .ensures))
 
 pub obs-spec : {M : Type 1} → statement M
-obs-spec = tie.close (tie.spec or-requires or-requires-2 returns)
+obs-spec = tie.close (tie.spec (λ c κs. search needs) (λ c κs. search needs) returns)

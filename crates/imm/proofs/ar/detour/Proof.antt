@@ -6,15 +6,9 @@ use borrow.Author.Needs.{needs}
 use Rattle.imm.proofs.ar.detour.Statement.{statement}
 use Rattle.imm.proofs.ar.detour.Tie as tie
 
-then-requires : tie.Need-then-requires
-then-requires c κs = search needs
-
-and-requires : tie.Need-and-requires
-and-requires c κs = search needs
-
 returns : tie.Need-returns
 unfolding eval
 returns c = λ B p x k. holds B detour (is-meet (is-then (given k) (given x) (c .before .then .ensures)) (given p) (c .and .ensures))
 
 pub detour-spec : {M : Type 1} → statement M
-detour-spec = tie.close (tie.spec then-requires and-requires returns)
+detour-spec = tie.close (tie.spec (λ c κs. search needs) (λ c κs. search needs) returns)

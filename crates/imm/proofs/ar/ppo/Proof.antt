@@ -5,18 +5,6 @@ use borrow.Author.Needs.{needs}
 use Rattle.imm.proofs.ar.ppo.Statement.{statement}
 use Rattle.imm.proofs.ar.ppo.Tie as tie
 
-or-requires : tie.Need-or-requires
-or-requires c κs = search needs
-
-closure-requires : tie.Need-closure-requires
-closure-requires c κs = search needs
-
-into-requires : tie.Need-into-requires
-into-requires c κs = search needs
-
-from-requires : tie.Need-from-requires
-from-requires c κs = search needs
-
 returns : tie.Need-returns
 returns c =
     λ B r w i d. let after-closure = c .before .before in
@@ -25,4 +13,4 @@ returns c =
     (c .from .ensures))
 
 pub ppo-spec : {M : Type 1} → statement M
-ppo-spec = tie.close (tie.spec or-requires closure-requires into-requires from-requires returns)
+ppo-spec = tie.close (tie.spec (λ c κs. search needs) (λ c κs. search needs) (λ c κs. search needs) (λ c κs. search needs) returns)

@@ -5,18 +5,6 @@ use borrow.Author.Needs.{needs}
 use Rattle.imm.proofs.ar.psc.Statement.{statement}
 use Rattle.imm.proofs.ar.psc.Tie as tie
 
-into-requires : tie.Need-into-requires
-into-requires c κs = search needs
-
-then-requires : tie.Need-then-requires
-then-requires c κs = search needs
-
-from-requires : tie.Need-from-requires
-from-requires c κs = search needs
-
-then-requires-2 : tie.Need-then-requires-2
-then-requires-2 c κs = search needs
-
 returns : tie.Need-returns
 returns c =
     λ B f h k. let after-then = c .before .before in
@@ -26,4 +14,4 @@ returns c =
     (c .then2 .ensures)))
 
 pub psc-spec : {M : Type 1} → statement M
-psc-spec = tie.close (tie.spec into-requires then-requires from-requires then-requires-2 returns)
+psc-spec = tie.close (tie.spec (λ c κs. search needs) (λ c κs. search needs) (λ c κs. search needs) (λ c κs. search needs) returns)

@@ -10,18 +10,6 @@ use borrow.Author.Needs.{needs}
 use Rattle.imm.proofs.hb.eco.Statement.{statement}
 use Rattle.imm.proofs.hb.eco.Tie as tie
 
-or-requires : tie.Need-or-requires
-or-requires c κs = search needs
-
-optional-requires : tie.Need-optional-requires
-optional-requires c κs = search needs
-
-then-requires : tie.Need-then-requires
-then-requires c κs = search needs
-
-or-requires-2 : tie.Need-or-requires-2
-or-requires-2 c κs = search needs
-
 returns : tie.Need-returns
 unfolding eval
 returns c =
@@ -34,4 +22,4 @@ returns c =
     (is-then (given r) (is-opt e (given f) (after-optional .optional .ensures)) refl) (c .or2 .ensures ∙ ap (either (edge (a .rf))) parted ∙ sym (either-assoc _ _ _)))
 
 pub eco-spec : {M : Type 1} → statement M
-eco-spec = tie.close (tie.spec or-requires optional-requires then-requires or-requires-2 returns)
+eco-spec = tie.close (tie.spec (λ c κs. search needs) (λ c κs. search needs) (λ c κs. search needs) (λ c κs. search needs) returns)

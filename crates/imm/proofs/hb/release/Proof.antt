@@ -6,18 +6,6 @@ use borrow.Author.Needs.{needs}
 use Rattle.imm.proofs.hb.release.Statement.{statement}
 use Rattle.imm.proofs.hb.release.Tie as tie
 
-identity-requires : tie.Need-identity-requires
-identity-requires c κs = search needs
-
-from-requires : tie.Need-from-requires
-from-requires c κs = search needs
-
-or-requires : tie.Need-or-requires
-or-requires c κs = search needs
-
-then-requires : tie.Need-then-requires
-then-requires c κs = search needs
-
 returns : tie.Need-returns
 unfolding eval
 returns c =
@@ -28,4 +16,4 @@ returns c =
 
 pub release-spec : {M : Type 1} → statement M
 release-spec =
-    tie.close (tie.spec identity-requires from-requires or-requires then-requires returns)
+    tie.close (tie.spec (λ c κs. search needs) (λ c κs. search needs) (λ c κs. search needs) (λ c κs. search needs) returns)

@@ -4,12 +4,9 @@ use borrow.Author.Needs.{needs}
 use Rattle.layout.proofs.field.class_of.Statement.{statement}
 use Rattle.layout.proofs.field.class_of.Tie as tie
 
-field-requires : tie.Need-field-requires
-field-requires c κs = search needs
-
 returns : tie.Need-returns
 unfolding decode
 returns c = c .field .ensures
 
 pub class-of-spec : {M : Type 1} → statement M
-class-of-spec = tie.close (tie.spec field-requires returns)
+class-of-spec = tie.close (tie.spec (λ c κs. search needs) returns)

@@ -8,9 +8,6 @@ use Rattle.layout.proofs.field.field.Tie as tie
 returns : tie.Need-returns
 returns c = (field-initial _ _ _ _ (c .if1 .taken), c .before .before .pre .2)
 
-is-recorded-requires : tie.Need-is-recorded-requires
-is-recorded-requires c κs = search needs
-
 event-byte-requires : tie.Need-event-byte-requires
 event-byte-requires c κs =
     let pre = c .before .before .before .before .pre in
@@ -26,4 +23,4 @@ returns-3 c = (field-none _ _ _ _ (c .before .before .if1 .left) (sym (c .before
 
 pub field-spec : {M : Type 1} → statement M
 field-spec =
-    tie.close (tie.spec returns is-recorded-requires event-byte-requires returns-2 returns-3)
+    tie.close (tie.spec returns (λ c κs. search needs) event-byte-requires returns-2 returns-3)

@@ -4,12 +4,9 @@ use borrow.Author.Needs.{needs}
 use Rattle.layout.proofs.field.flag_of.Statement.{statement}
 use Rattle.layout.proofs.field.flag_of.Tie as tie
 
-field-requires : tie.Need-field-requires
-field-requires c κs = search needs
-
 returns : tie.Need-returns
 unfolding decode
 returns c = c .field .ensures
 
 pub flag-of-spec : {M : Type 1} → statement M
-flag-of-spec = tie.close (tie.spec field-requires returns)
+flag-of-spec = tie.close (tie.spec (λ c κs. search needs) returns)

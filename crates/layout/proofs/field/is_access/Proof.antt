@@ -5,12 +5,6 @@ use borrow.Author.Needs.{needs}
 use Rattle.layout.proofs.field.is_access.Statement.{statement}
 use Rattle.layout.proofs.field.is_access.Tie as tie
 
-of-class-requires : tie.Need-of-class-requires
-of-class-requires c κs = search needs
-
-of-class-requires-2 : tie.Need-of-class-requires-2
-of-class-requires-2 c κs = search needs
-
 returns : tie.Need-returns
 unfolding access
 returns c = or-yes _ _ _ (c .before .of-class .ensures) (c .if1 .taken)
@@ -20,4 +14,4 @@ unfolding access
 returns-2 c = or-no _ _ _ _ (c .before .before .of-class .ensures) (c .before .if1 .left) (c .of-class2 .ensures)
 
 pub is-access-spec : {M : Type 1} → statement M
-is-access-spec = tie.close (tie.spec of-class-requires of-class-requires-2 returns returns-2)
+is-access-spec = tie.close (tie.spec (λ c κs. search needs) (λ c κs. search needs) returns returns-2)

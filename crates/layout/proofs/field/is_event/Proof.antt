@@ -6,12 +6,6 @@ use borrow.Author.Needs.{needs}
 use Rattle.layout.proofs.field.is_event.Statement.{statement}
 use Rattle.layout.proofs.field.is_event.Tie as tie
 
-is-initial-requires : tie.Need-is-initial-requires
-is-initial-requires c κs = search needs
-
-is-recorded-requires : tie.Need-is-recorded-requires
-is-recorded-requires c κs = search needs
-
 returns : tie.Need-returns
 unfolding event decode
 returns c = or-yes _ _ _ (c .before .is-initial .ensures) (c .if1 .taken)
@@ -21,4 +15,4 @@ unfolding event decode
 returns-2 c = or-no _ _ _ _ (c .before .before .is-initial .ensures) (c .before .if1 .left) (c .is-recorded .ensures)
 
 pub is-event-spec : {M : Type 1} → statement M
-is-event-spec = tie.close (tie.spec is-initial-requires is-recorded-requires returns returns-2)
+is-event-spec = tie.close (tie.spec (λ c κs. search needs) (λ c κs. search needs) returns returns-2)

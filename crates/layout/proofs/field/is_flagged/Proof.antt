@@ -5,12 +5,6 @@ use borrow.Author.Needs.{needs}
 use Rattle.layout.proofs.field.is_flagged.Statement.{statement}
 use Rattle.layout.proofs.field.is_flagged.Tie as tie
 
-of-class-requires : tie.Need-of-class-requires
-of-class-requires c κs = search needs
-
-flag-of-requires : tie.Need-flag-of-requires
-flag-of-requires c κs = search needs
-
 returns : tie.Need-returns
 unfolding flagged
 returns c = and-yes _ _ _ _ (c .before .before .of-class .ensures) (c .before .if1 .taken) (is-number 1 _ _ (c .flag-of .ensures .0))
@@ -20,4 +14,4 @@ unfolding flagged
 returns-2 c = and-no _ _ _ (c .before .of-class .ensures) (c .if1 .left)
 
 pub is-flagged-spec : {M : Type 1} → statement M
-is-flagged-spec = tie.close (tie.spec of-class-requires flag-of-requires returns returns-2)
+is-flagged-spec = tie.close (tie.spec (λ c κs. search needs) (λ c κs. search needs) returns returns-2)

@@ -7,12 +7,6 @@ use borrow.Author.Needs.{needs}
 use Rattle.layout.proofs.field.is_initial.Statement.{statement}
 use Rattle.layout.proofs.field.is_initial.Tie as tie
 
-locations-requires : tie.Need-locations-requires
-locations-requires c κs = search needs
-
-add-result : tie.Need-add-result
-add-result c = search needs
-
 returns : tie.Need-returns
 returns c = ap (λ (l : ℕ). ltb (c .before .before .before .args .e) (56 + l)) (c .before .locations .ensures .0) ∙ initial-yes _ _ (c .if1 .taken)
 
@@ -20,4 +14,4 @@ returns-2 : tie.Need-returns-2
 returns-2 c = initial-no _ _ (c .if1 .left)
 
 pub is-initial-spec : {M : Type 1} → statement M
-is-initial-spec = tie.close (tie.spec locations-requires add-result returns returns-2)
+is-initial-spec = tie.close (tie.spec (λ c κs. search needs) (λ c. search needs) returns returns-2)

@@ -4,9 +4,6 @@ use borrow.Author.Needs.{needs}
 use Rattle.layout.proofs.field.is_recorded.Statement.{statement}
 use Rattle.layout.proofs.field.is_recorded.Tie as tie
 
-events-requires : tie.Need-events-requires
-events-requires c κs = search needs
-
 returns : tie.Need-returns
 returns c = recorded-yes _ _ _ (c .before .events .ensures .0) (c .if1 .taken)
 
@@ -14,4 +11,4 @@ returns-2 : tie.Need-returns-2
 returns-2 c = recorded-no _ _ (c .if1 .left)
 
 pub is-recorded-spec : {M : Type 1} → statement M
-is-recorded-spec = tie.close (tie.spec events-requires returns returns-2)
+is-recorded-spec = tie.close (tie.spec (λ c κs. search needs) returns returns-2)

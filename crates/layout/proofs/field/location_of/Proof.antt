@@ -4,9 +4,6 @@ use borrow.Author.Needs.{needs}
 use Rattle.layout.proofs.field.location_of.Statement.{statement}
 use Rattle.layout.proofs.field.location_of.Tie as tie
 
-field-requires : tie.Need-field-requires
-field-requires c κs = search needs
-
 returns : tie.Need-returns
 returns c = location-initial _ _ (c .if1 .taken)
 
@@ -14,4 +11,4 @@ returns-2 : tie.Need-returns-2
 returns-2 c = location-recorded _ _ _ (c .before .if1 .left) (c .field .ensures .0)
 
 pub location-of-spec : {M : Type 1} → statement M
-location-of-spec = tie.close (tie.spec field-requires returns returns-2)
+location-of-spec = tie.close (tie.spec (λ c κs. search needs) returns returns-2)

@@ -4,12 +4,9 @@ use borrow.Author.Needs.{needs}
 use Rattle.layout.proofs.field.mode_of.Statement.{statement}
 use Rattle.layout.proofs.field.mode_of.Tie as tie
 
-field-requires : tie.Need-field-requires
-field-requires c κs = search needs
-
 returns : tie.Need-returns
 unfolding decode
 returns c = c .field .ensures
 
 pub mode-of-spec : {M : Type 1} → statement M
-mode-of-spec = tie.close (tie.spec field-requires returns)
+mode-of-spec = tie.close (tie.spec (λ c κs. search needs) returns)

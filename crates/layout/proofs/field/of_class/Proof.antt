@@ -5,12 +5,6 @@ use borrow.Author.Needs.{needs}
 use Rattle.layout.proofs.field.of_class.Statement.{statement}
 use Rattle.layout.proofs.field.of_class.Tie as tie
 
-is-event-requires : tie.Need-is-event-requires
-is-event-requires c κs = search needs
-
-class-of-requires : tie.Need-class-of-requires
-class-of-requires c κs = search needs
-
 returns : tie.Need-returns
 unfolding ofClass
 returns c = and-yes _ _ _ _ (c .before .before .is-event .ensures) (c .before .if1 .taken) (is-number _ _ _ (c .class-of .ensures .0))
@@ -20,4 +14,4 @@ unfolding ofClass
 returns-2 c = and-no _ _ _ (c .before .is-event .ensures) (c .if1 .left)
 
 pub of-class-spec : {M : Type 1} → statement M
-of-class-spec = tie.close (tie.spec is-event-requires class-of-requires returns returns-2)
+of-class-spec = tie.close (tie.spec (λ c κs. search needs) (λ c κs. search needs) returns returns-2)

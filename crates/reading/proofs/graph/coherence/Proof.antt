@@ -6,15 +6,9 @@ use borrow.Author.Needs.{needs}
 use Rattle.reading.proofs.graph.coherence.Statement.{statement}
 use Rattle.reading.proofs.graph.coherence.Tie as tie
 
-co-steps-requires : tie.Need-co-steps-requires
-co-steps-requires c κs = search needs
-
-closure-requires : tie.Need-closure-requires
-closure-requires c κs = search needs
-
 returns : tie.Need-returns
 unfolding base
 returns c = c .closure .ensures ∙ ap (plus nodes) (c .before .co-steps .ensures)
 
 pub coherence-spec : {M : Type 1} → statement M
-coherence-spec = tie.close (tie.spec co-steps-requires closure-requires returns)
+coherence-spec = tie.close (tie.spec (λ c κs. search needs) (λ c κs. search needs) returns)

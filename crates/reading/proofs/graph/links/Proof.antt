@@ -5,15 +5,9 @@ use borrow.Author.Needs.{needs}
 use Rattle.reading.proofs.graph.links.Statement.{statement}
 use Rattle.reading.proofs.graph.links.Tie as tie
 
-link-rows-requires : tie.Need-link-rows-requires
-link-rows-requires c κs = search needs
-
-inverse-requires : tie.Need-inverse-requires
-inverse-requires c κs = search needs
-
 returns : tie.Need-returns
 unfolding inverse
 returns c = c .inverse .ensures ∙ ap inverse (c .before .link-rows .ensures)
 
 pub links-spec : {M : Type 1} → statement M
-links-spec = tie.close (tie.spec link-rows-requires inverse-requires returns)
+links-spec = tie.close (tie.spec (λ c κs. search needs) (λ c κs. search needs) returns)

@@ -6,14 +6,8 @@ use borrow.Author.Needs.{needs}
 use Rattle.reading.proofs.graph.place_of.Statement.{statement}
 use Rattle.reading.proofs.graph.place_of.Tie as tie
 
-is-access-requires : tie.Need-is-access-requires
-is-access-requires c κs = search needs
-
 returns : tie.Need-returns
 returns c = place-none _ _ (sym (c .before .is-access .ensures) ∙ not-true _ (c .if1 .taken))
-
-location-of-requires : tie.Need-location-of-requires
-location-of-requires c κs = search needs
 
 returns-2 : tie.Need-returns-2
 returns-2 c = place-far _ _ _ (c .before .location-of .ensures) (c .if2 .taken)
@@ -23,4 +17,4 @@ returns-3 c = place-here _ _ _ (sym (c .before .before .before .is-access .ensur
 
 pub place-of-spec : {M : Type 1} → statement M
 place-of-spec =
-    tie.close (tie.spec is-access-requires returns location-of-requires returns-2 returns-3)
+    tie.close (tie.spec (λ c κs. search needs) returns (λ c κs. search needs) returns-2 returns-3)

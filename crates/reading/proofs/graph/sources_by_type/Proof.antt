@@ -7,9 +7,6 @@ use borrow.Author.Needs.{needs}
 use Rattle.reading.proofs.graph.sources_by_type.Statement.{statement}
 use Rattle.reading.proofs.graph.sources_by_type.Tie as tie
 
-is-recorded-requires : tie.Need-is-recorded-requires
-is-recorded-requires c κs = search needs
-
 returns : tie.Need-returns
 returns c = sources-none _ _ (sym (c .before .is-recorded .ensures) ∙ not-true _ (c .if1 .taken))
 
@@ -19,8 +16,5 @@ by-type-requires c κs =
     let first = recorded-bounds _ _ (sym (c .before .is-recorded .ensures) ∙ not-false _ (c .if1 .left)) in
     (pre .sized, first .0, first .1, pre .chains _ (first .0) (first .1))
 
-returns-2 : tie.Need-returns-2
-returns-2 c = search needs
-
 pub sources-by-type-spec : {M : Type 1} → statement M
-sources-by-type-spec = tie.close (tie.spec is-recorded-requires returns by-type-requires returns-2)
+sources-by-type-spec = tie.close (tie.spec (λ c κs. search needs) returns by-type-requires (λ c. search needs))

@@ -7,12 +7,6 @@ use borrow.Author.Needs.{needs}
 use Rattle.reading.proofs.graph.sources_of.Statement.{statement}
 use Rattle.reading.proofs.graph.sources_of.Tie as tie
 
-is-recorded-requires : tie.Need-is-recorded-requires
-is-recorded-requires c κs = search needs
-
-none-requires : tie.Need-none-requires
-none-requires c κs = search needs
-
 returns : tie.Need-returns
 returns c = link-none _ _ _ _ (c .none .ensures) (sym (c .before .before .is-recorded .ensures) ∙ not-true _ (c .before .if1 .taken))
 
@@ -22,9 +16,6 @@ sources-requires c κs =
     let first = recorded-bounds _ _ (sym (c .before .is-recorded .ensures) ∙ not-false _ (c .if1 .left)) in
     (pre .sized, first .0, first .1, pre .chains _ (first .0) (first .1))
 
-returns-2 : tie.Need-returns-2
-returns-2 c = search needs
-
 pub sources-of-spec : {M : Type 1} → statement M
 sources-of-spec =
-    tie.close (tie.spec is-recorded-requires none-requires returns sources-requires returns-2)
+    tie.close (tie.spec (λ c κs. search needs) (λ c κs. search needs) returns sources-requires (λ c. search needs))

@@ -9,18 +9,6 @@ use borrow.Author.Needs.{needs}
 use Rattle.recording.proofs.causes.co_ring.Statement.{statement}
 use Rattle.recording.proofs.causes.co_ring.Tie as tie
 
-link-rows-requires : tie.Need-link-rows-requires
-link-rows-requires c κs = search needs
-
-closure-requires : tie.Need-closure-requires
-closure-requires c κs = search needs
-
-diagonal-requires : tie.Need-diagonal-requires
-diagonal-requires c κs = search needs
-
-first-requires : tie.Need-first-requires
-first-requires c κs = search needs
-
 returns : tie.Need-returns
 returns c =
     let start = c .before .before .before .before .before in
@@ -28,4 +16,4 @@ returns c =
     ∙ co-ring-is _ (start .pre .sized) _ (c .before .before .before .link-rows .ensures)
 
 pub co-ring-spec : {M : Type 1} → statement M
-co-ring-spec = tie.close (tie.spec link-rows-requires closure-requires diagonal-requires first-requires returns)
+co-ring-spec = tie.close (tie.spec (λ c κs. search needs) (λ c κs. search needs) (λ c κs. search needs) (λ c κs. search needs) returns)

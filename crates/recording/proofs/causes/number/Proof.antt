@@ -5,9 +5,6 @@ use borrow.Author.Needs.{needs}
 use Rattle.recording.proofs.causes.number.Statement.{statement}
 use Rattle.recording.proofs.causes.number.Tie as tie
 
-enum-known-answer : tie.Need-enum-known-answer
-enum-known-answer c = search needs
-
 enum-told : tie.Need-enum-told
 enum-told c = search needs
 
@@ -20,4 +17,4 @@ unfolding numberOf
 returns-2 c = sym (ap numberOf (c .enum-told .given .1))
 
 pub number-spec : {M : Type 1} → statement M
-number-spec = tie.close (tie.spec enum-known-answer enum-told returns returns-2)
+number-spec = tie.close (tie.spec (λ c. search needs) enum-told returns returns-2)

@@ -12,16 +12,10 @@ is-flagged-requires c κs = c .before .pre .sized
 returns : tie.Need-returns
 returns c = paired-no _ _ (sym (c .before .is-flagged .ensures) ∙ not-true _ (c .if1 .taken))
 
-sources-of-requires : tie.Need-sources-of-requires
-sources-of-requires c κs = search needs
-
-first-requires : tie.Need-first-requires
-first-requires c κs = search needs
-
 returns-2 : tie.Need-returns-2
 returns-2 c =
     paired-yes _ _ _ _ (sym (c .before .before .before .is-flagged .ensures) ∙ not-false _ (c .before .before .if1 .left)) (c .before .sources-of .ensures) (c .first .ensures)
 
 pub paired-at-spec : {M : Type 1} → statement M
 paired-at-spec =
-    tie.close (tie.spec is-flagged-requires returns sources-of-requires first-requires returns-2)
+    tie.close (tie.spec is-flagged-requires returns (λ c κs. search needs) (λ c κs. search needs) returns-2)

@@ -5,12 +5,6 @@ use borrow.Author.Needs.{needs}
 use Rattle.recording.proofs.legal.addr_legal.Statement.{statement}
 use Rattle.recording.proofs.legal.addr_legal.Tie as tie
 
-from-read-requires : tie.Need-from-read-requires
-from-read-requires c κs = search needs
-
-is-access-requires : tie.Need-is-access-requires
-is-access-requires c κs = search needs
-
 returns : tie.Need-returns
 unfolding addrLegal
 returns c = and-yes _ _ _ _ (c .before .before .from-read .ensures) (c .before .if1 .taken) (c .is-access .ensures)
@@ -20,4 +14,4 @@ unfolding addrLegal
 returns-2 c = and-no _ _ _ (c .before .from-read .ensures) (c .if1 .left)
 
 pub addr-legal-spec : {M : Type 1} → statement M
-addr-legal-spec = tie.close (tie.spec from-read-requires is-access-requires returns returns-2)
+addr-legal-spec = tie.close (tie.spec (λ c κs. search needs) (λ c κs. search needs) returns returns-2)

@@ -8,14 +8,8 @@ use borrow.Author.Needs.{needs}
 use Rattle.recording.proofs.legal.another.Statement.{statement}
 use Rattle.recording.proofs.legal.another.Tie as tie
 
-is-recorded-requires : tie.Need-is-recorded-requires
-is-recorded-requires c κs = search needs
-
 returns : tie.Need-returns
 returns c = not-recorded _ _ _ (sym (c .before .is-recorded .ensures) ∙ not-true _ (c .if1 .taken))
-
-same-location-requires : tie.Need-same-location-requires
-same-location-requires c κs = search needs
 
 returns-2 : tie.Need-returns-2
 returns-2 c =
@@ -29,4 +23,4 @@ returns-3 c =
 
 pub another-spec : {M : Type 1} → statement M
 another-spec =
-    tie.close (tie.spec is-recorded-requires returns same-location-requires returns-2 returns-3)
+    tie.close (tie.spec (λ c κs. search needs) returns (λ c κs. search needs) returns-2 returns-3)

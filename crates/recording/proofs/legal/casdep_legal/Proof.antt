@@ -5,12 +5,6 @@ use borrow.Author.Needs.{needs}
 use Rattle.recording.proofs.legal.casdep_legal.Statement.{statement}
 use Rattle.recording.proofs.legal.casdep_legal.Tie as tie
 
-from-read-requires : tie.Need-from-read-requires
-from-read-requires c κs = search needs
-
-source-exclusive-requires : tie.Need-source-exclusive-requires
-source-exclusive-requires c κs = search needs
-
 returns : tie.Need-returns
 unfolding casdepLegal
 returns c = and-yes _ _ _ _ (c .before .before .from-read .ensures) (c .before .if1 .taken) (c .source-exclusive .ensures)
@@ -21,4 +15,4 @@ returns-2 c = and-no _ _ _ (c .before .from-read .ensures) (c .if1 .left)
 
 pub casdep-legal-spec : {M : Type 1} → statement M
 casdep-legal-spec =
-    tie.close (tie.spec from-read-requires source-exclusive-requires returns returns-2)
+    tie.close (tie.spec (λ c κs. search needs) (λ c κs. search needs) returns returns-2)

@@ -4,12 +4,6 @@ use borrow.Author.Needs.{needs}
 use Rattle.recording.proofs.legal.classes.Statement.{statement}
 use Rattle.recording.proofs.legal.classes.Tie as tie
 
-of-class-requires : tie.Need-of-class-requires
-of-class-requires c κs = search needs
-
-of-class-requires-2 : tie.Need-of-class-requires-2
-of-class-requires-2 c κs = search needs
-
 returns : tie.Need-returns
 returns c = and-yes _ _ _ _ (c .before .before .of-class .ensures) (c .before .if1 .taken) (c .of-class2 .ensures)
 
@@ -17,4 +11,4 @@ returns-2 : tie.Need-returns-2
 returns-2 c = and-no _ _ _ (c .before .of-class .ensures) (c .if1 .left)
 
 pub classes-spec : {M : Type 1} → statement M
-classes-spec = tie.close (tie.spec of-class-requires of-class-requires-2 returns returns-2)
+classes-spec = tie.close (tie.spec (λ c κs. search needs) (λ c κs. search needs) returns returns-2)

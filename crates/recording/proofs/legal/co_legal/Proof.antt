@@ -5,12 +5,6 @@ use borrow.Author.Needs.{needs}
 use Rattle.recording.proofs.legal.co_legal.Statement.{statement}
 use Rattle.recording.proofs.legal.co_legal.Tie as tie
 
-classes-requires : tie.Need-classes-requires
-classes-requires c κs = search needs
-
-another-requires : tie.Need-another-requires
-another-requires c κs = search needs
-
 returns : tie.Need-returns
 unfolding coLegal
 returns c = and-yes _ _ _ _ (c .before .before .classes .ensures) (c .before .if1 .taken) (c .another .ensures)
@@ -20,4 +14,4 @@ unfolding coLegal
 returns-2 c = and-no _ _ _ (c .before .classes .ensures) (c .if1 .left)
 
 pub co-legal-spec : {M : Type 1} → statement M
-co-legal-spec = tie.close (tie.spec classes-requires another-requires returns returns-2)
+co-legal-spec = tie.close (tie.spec (λ c κs. search needs) (λ c κs. search needs) returns returns-2)

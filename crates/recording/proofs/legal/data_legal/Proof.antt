@@ -5,12 +5,6 @@ use borrow.Author.Needs.{needs}
 use Rattle.recording.proofs.legal.data_legal.Statement.{statement}
 use Rattle.recording.proofs.legal.data_legal.Tie as tie
 
-from-read-requires : tie.Need-from-read-requires
-from-read-requires c κs = search needs
-
-of-class-requires : tie.Need-of-class-requires
-of-class-requires c κs = search needs
-
 returns : tie.Need-returns
 unfolding dataLegal
 returns c = and-yes _ _ _ _ (c .before .before .from-read .ensures) (c .before .if1 .taken) (c .of-class .ensures)
@@ -20,4 +14,4 @@ unfolding dataLegal
 returns-2 c = and-no _ _ _ (c .before .from-read .ensures) (c .if1 .left)
 
 pub data-legal-spec : {M : Type 1} → statement M
-data-legal-spec = tie.close (tie.spec from-read-requires of-class-requires returns returns-2)
+data-legal-spec = tie.close (tie.spec (λ c κs. search needs) (λ c κs. search needs) returns returns-2)

@@ -4,12 +4,6 @@ use borrow.Author.Needs.{needs}
 use Rattle.recording.proofs.legal.exclusive_to_write.Statement.{statement}
 use Rattle.recording.proofs.legal.exclusive_to_write.Tie as tie
 
-is-flagged-requires : tie.Need-is-flagged-requires
-is-flagged-requires c κs = search needs
-
-of-class-requires : tie.Need-of-class-requires
-of-class-requires c κs = search needs
-
 returns : tie.Need-returns
 returns c = and-yes _ _ _ _ (c .before .before .is-flagged .ensures) (c .before .if1 .taken) (c .of-class .ensures)
 
@@ -18,4 +12,4 @@ returns-2 c = and-no _ _ _ (c .before .is-flagged .ensures) (c .if1 .left)
 
 pub exclusive-to-write-spec : {M : Type 1} → statement M
 exclusive-to-write-spec =
-    tie.close (tie.spec is-flagged-requires of-class-requires returns returns-2)
+    tie.close (tie.spec (λ c κs. search needs) (λ c κs. search needs) returns returns-2)

@@ -6,9 +6,6 @@ use borrow.Author.Needs.{needs}
 use Rattle.recording.proofs.legal.fence_legal.Statement.{statement}
 use Rattle.recording.proofs.legal.fence_legal.Tie as tie
 
-fence-mode-requires : tie.Need-fence-mode-requires
-fence-mode-requires c κs = search needs
-
 returns : tie.Need-returns
 unfolding fenceLegal
 returns c = and-yes _ _ _ _ (c .before .fence-mode .ensures) (c .if1 .taken) refl
@@ -18,4 +15,4 @@ unfolding fenceLegal
 returns-2 c = and-no _ _ _ (c .before .fence-mode .ensures) (c .if1 .left)
 
 pub fence-legal-spec : {M : Type 1} → statement M
-fence-legal-spec = tie.close (tie.spec fence-mode-requires returns returns-2)
+fence-legal-spec = tie.close (tie.spec (λ c κs. search needs) returns returns-2)

@@ -6,9 +6,6 @@ use borrow.Author.Needs.{needs}
 use Rattle.recording.proofs.legal.from_read.Statement.{statement}
 use Rattle.recording.proofs.legal.from_read.Tie as tie
 
-of-class-requires : tie.Need-of-class-requires
-of-class-requires c κs = search needs
-
 returns : tie.Need-returns
 unfolding fromRead
 returns c =
@@ -21,4 +18,4 @@ unfolding fromRead
 returns-2 c = and-no _ _ _ (c .before .of-class .ensures) (c .if1 .left)
 
 pub from-read-spec : {M : Type 1} → statement M
-from-read-spec = tie.close (tie.spec of-class-requires returns returns-2)
+from-read-spec = tie.close (tie.spec (λ c κs. search needs) returns returns-2)

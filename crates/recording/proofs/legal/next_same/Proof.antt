@@ -4,12 +4,6 @@ use borrow.Author.Needs.{needs}
 use Rattle.recording.proofs.legal.next_same.Statement.{statement}
 use Rattle.recording.proofs.legal.next_same.Tie as tie
 
-is-next-requires : tie.Need-is-next-requires
-is-next-requires c κs = search needs
-
-same-location-requires : tie.Need-same-location-requires
-same-location-requires c κs = search needs
-
 returns : tie.Need-returns
 returns c = and-yes _ _ _ _ (c .before .before .is-next .ensures) (c .before .if1 .taken) (c .same-location .ensures)
 
@@ -17,4 +11,4 @@ returns-2 : tie.Need-returns-2
 returns-2 c = and-no _ _ _ (c .before .is-next .ensures) (c .if1 .left)
 
 pub next-same-spec : {M : Type 1} → statement M
-next-same-spec = tie.close (tie.spec is-next-requires same-location-requires returns returns-2)
+next-same-spec = tie.close (tie.spec (λ c κs. search needs) (λ c κs. search needs) returns returns-2)

@@ -5,12 +5,6 @@ use borrow.Author.Needs.{needs}
 use Rattle.recording.proofs.legal.rf_legal.Statement.{statement}
 use Rattle.recording.proofs.legal.rf_legal.Tie as tie
 
-classes-requires : tie.Need-classes-requires
-classes-requires c κs = search needs
-
-same-value-requires : tie.Need-same-value-requires
-same-value-requires c κs = search needs
-
 returns : tie.Need-returns
 unfolding rfLegal
 returns c = and-yes _ _ _ _ (c .before .before .classes .ensures) (c .before .if1 .taken) (c .same-value .ensures)
@@ -20,4 +14,4 @@ unfolding rfLegal
 returns-2 c = and-no _ _ _ (c .before .classes .ensures) (c .if1 .left)
 
 pub rf-legal-spec : {M : Type 1} → statement M
-rf-legal-spec = tie.close (tie.spec classes-requires same-value-requires returns returns-2)
+rf-legal-spec = tie.close (tie.spec (λ c κs. search needs) (λ c κs. search needs) returns returns-2)

@@ -5,12 +5,6 @@ use borrow.Author.Needs.{needs}
 use Rattle.recording.proofs.legal.rmw_legal.Statement.{statement}
 use Rattle.recording.proofs.legal.rmw_legal.Tie as tie
 
-exclusive-to-write-requires : tie.Need-exclusive-to-write-requires
-exclusive-to-write-requires c κs = search needs
-
-next-same-requires : tie.Need-next-same-requires
-next-same-requires c κs = search needs
-
 returns : tie.Need-returns
 unfolding rmwLegal
 returns c = and-yes _ _ _ _ (c .before .before .exclusive-to-write .ensures) (c .before .if1 .taken) (c .next-same .ensures)
@@ -21,4 +15,4 @@ returns-2 c = and-no _ _ _ (c .before .exclusive-to-write .ensures) (c .if1 .lef
 
 pub rmw-legal-spec : {M : Type 1} → statement M
 rmw-legal-spec =
-    tie.close (tie.spec exclusive-to-write-requires next-same-requires returns returns-2)
+    tie.close (tie.spec (λ c κs. search needs) (λ c κs. search needs) returns returns-2)

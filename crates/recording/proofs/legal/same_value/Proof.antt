@@ -6,15 +6,6 @@ use borrow.Author.Needs.{needs}
 use Rattle.recording.proofs.legal.same_value.Statement.{statement}
 use Rattle.recording.proofs.legal.same_value.Tie as tie
 
-same-location-requires : tie.Need-same-location-requires
-same-location-requires c κs = search needs
-
-value-of-requires : tie.Need-value-of-requires
-value-of-requires c κs = search needs
-
-value-of-requires-2 : tie.Need-value-of-requires-2
-value-of-requires-2 c κs = search needs
-
 returns : tie.Need-returns
 returns c = and-yes _ _ _ _ (c .before .before .before .same-location .ensures) (c .before .before .if1 .taken) (ap₂ eqb (c .before .value-of .ensures) (c .value-of2 .ensures))
 
@@ -24,4 +15,4 @@ returns-2 c = and-no _ _ _ (c .before .same-location .ensures) (c .if1 .left)
 pub same-value-spec : {M : Type 1} → statement M
 same-value-spec =
     tie.close
-    (tie.spec same-location-requires value-of-requires value-of-requires-2 returns returns-2)
+    (tie.spec (λ c κs. search needs) (λ c κs. search needs) (λ c κs. search needs) returns returns-2)

@@ -5,12 +5,6 @@ use borrow.Author.Needs.{needs}
 use Rattle.recording.proofs.legal.write_legal.Statement.{statement}
 use Rattle.recording.proofs.legal.write_legal.Tie as tie
 
-write-mode-requires : tie.Need-write-mode-requires
-write-mode-requires c κs = search needs
-
-write-flag-requires : tie.Need-write-flag-requires
-write-flag-requires c κs = search needs
-
 returns : tie.Need-returns
 unfolding writeLegal
 returns c = and-yes _ _ _ _ (c .before .before .write-mode .ensures) (c .before .if1 .taken) (c .write-flag .ensures)
@@ -20,4 +14,4 @@ unfolding writeLegal
 returns-2 c = and-no _ _ _ (c .before .write-mode .ensures) (c .if1 .left)
 
 pub write-legal-spec : {M : Type 1} → statement M
-write-legal-spec = tie.close (tie.spec write-mode-requires write-flag-requires returns returns-2)
+write-legal-spec = tie.close (tie.spec (λ c κs. search needs) (λ c κs. search needs) returns returns-2)

@@ -8,17 +8,8 @@ use borrow.Author.Needs.{needs}
 use Rattle.recording.proofs.links.one_source.Statement.{statement}
 use Rattle.recording.proofs.links.one_source.Tie as tie
 
-first-requires : tie.Need-first-requires
-first-requires c κs = search needs
-
 returns : tie.Need-returns
 returns c r b e = alone r b _ e (omega (arith, c .before .first .ensures, c .if1 .taken))
-
-without-requires : tie.Need-without-requires
-without-requires c κs = search needs
-
-first-requires-2 : tie.Need-first-requires-2
-first-requires-2 c κs = search needs
 
 returns-2 : tie.Need-returns-2
 returns-2 c r b e =
@@ -27,4 +18,4 @@ returns-2 c r b e =
 
 pub one-source-spec : {M : Type 1} → statement M
 one-source-spec =
-    tie.close (tie.spec first-requires returns without-requires first-requires-2 returns-2)
+    tie.close (tie.spec (λ c κs. search needs) returns (λ c κs. search needs) (λ c κs. search needs) returns-2)

@@ -4,15 +4,9 @@ use borrow.Author.Needs.{needs}
 use Rattle.relation.proofs.grid.optional.Statement.{statement}
 use Rattle.relation.proofs.grid.optional.Tie as tie
 
-identity-requires : tie.Need-identity-requires
-identity-requires c κs = search needs
-
-or-requires : tie.Need-or-requires
-or-requires c κs = search needs
-
 returns : tie.Need-returns
 unfolding optional
 returns c = cc
 
 pub optional-spec : {M : Type 1} → statement M
-optional-spec = tie.close (tie.spec identity-requires or-requires returns)
+optional-spec = tie.close (tie.spec (λ c κs. search needs) (λ c κs. search needs) returns)

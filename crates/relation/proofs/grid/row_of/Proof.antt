@@ -5,15 +5,9 @@ use borrow.Author.Needs.{needs}
 use Rattle.relation.proofs.grid.row_of.Statement.{statement}
 use Rattle.relation.proofs.grid.row_of.Tie as tie
 
-mul-result : tie.Need-mul-result
-mul-result c = search needs
-
-array-copy-out-result : tie.Need-array-copy-out-result
-array-copy-out-result c = search needs
-
 returns : tie.Need-returns
 unfolding edge
 returns c = refl
 
 pub row-of-spec : {M : Type 1} → statement M
-row-of-spec = tie.close (tie.spec mul-result array-copy-out-result returns)
+row-of-spec = tie.close (tie.spec (λ c. search needs) (λ c. search needs) returns)

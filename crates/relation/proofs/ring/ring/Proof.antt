@@ -7,9 +7,6 @@ use borrow.Author.Needs.{needs}
 use Rattle.relation.proofs.ring.ring.Statement.{statement}
 use Rattle.relation.proofs.ring.ring.Tie as tie
 
-shortest-requires : tie.Need-shortest-requires
-shortest-requires c κs = search needs
-
 returns : tie.Need-returns
 returns c = (search needs, ring-none _ _ (edge-inside _ (search needs)) (edge-inside _ (search needs)) _ _ (c .if1 .taken) (c .before .shortest .ensures) _ refl)
 
@@ -17,12 +14,6 @@ way-requires : tie.Need-way-requires
 way-requires c κs =
     let found = c .before .shortest .ensures in
     (found .inside (c .if1 .left), c .if1 .left, found .closes (c .if1 .left))
-
-add-turned : tie.Need-add-turned
-add-turned c = search needs
-
-turned-requires : tie.Need-turned-requires
-turned-requires c κs = search needs
 
 returns-2 : tie.Need-returns-2
 returns-2 c =
@@ -32,4 +23,4 @@ returns-2 c =
 pub ring-spec : {M : Type 1} → statement M
 ring-spec =
     tie.close
-    (tie.spec shortest-requires returns way-requires add-turned turned-requires returns-2)
+    (tie.spec (λ c κs. search needs) returns way-requires (λ c. search needs) (λ c κs. search needs) returns-2)

@@ -5,18 +5,6 @@ use borrow.Author.Needs.{needs}
 use Rattle.relation.proofs.ring.turned_to.Statement.{statement}
 use Rattle.relation.proofs.ring.turned_to.Tie as tie
 
-add-if1 : tie.Need-add-if1
-add-if1 c = search needs
-
-add-result : tie.Need-add-result
-add-result c = search needs
-
-add-result-2 : tie.Need-add-result-2
-add-result-2 c = search needs
-
-sub-result : tie.Need-sub-result
-sub-result c = search needs
-
 returns : tie.Need-returns
 returns c = sym (turned-low _ _ _ (c .if1 .taken))
 
@@ -24,4 +12,4 @@ returns-2 : tie.Need-returns-2
 returns-2 c = sym (turned-high _ _ _ (c .if1 .left))
 
 pub turned-to-spec : {M : Type 1} → statement M
-turned-to-spec = tie.close (tie.spec add-if1 add-result add-result-2 sub-result returns returns-2)
+turned-to-spec = tie.close (tie.spec (λ c. search needs) (λ c. search needs) (λ c. search needs) (λ c. search needs) returns returns-2)

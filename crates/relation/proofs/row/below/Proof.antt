@@ -7,23 +7,14 @@ use borrow.Author.Needs.{needs}
 use Rattle.relation.proofs.row.below.Statement.{statement}
 use Rattle.relation.proofs.row.below.Tie as tie
 
-all-requires : tie.Need-all-requires
-all-requires c κs = search needs
-
 returns : tie.Need-returns
 returns c = c .all .ensures ∙ ap under (sym (c .before .if1 .taken))
 
-shl-bytes : tie.Need-shl-bytes
-shl-bytes c = search needs
-
 sub-bytes : tie.Need-sub-bytes
 sub-bytes c = flag-some _ (omega (arith, c .before .pre, c .if1 .left))
-
-bytes-requires : tie.Need-bytes-requires
-bytes-requires c κs = search needs
 
 returns-2 : tie.Need-returns-2
 returns-2 c = c .bytes .ensures ∙ on-under _ (omega (arith, c .before .before .pre, c .before .if1 .left))
 
 pub below-spec : {M : Type 1} → statement M
-below-spec = tie.close (tie.spec all-requires returns shl-bytes sub-bytes bytes-requires returns-2)
+below-spec = tie.close (tie.spec (λ c κs. search needs) returns (λ c. search needs) sub-bytes (λ c κs. search needs) returns-2)

@@ -7,9 +7,6 @@ use borrow.Author.Needs.{needs}
 use Rattle.relation.proofs.row.first.Statement.{statement}
 use Rattle.relation.proofs.row.first.Tie as tie
 
-word-requires : tie.Need-word-requires
-word-requires c κs = search needs
-
 cast-result : tie.Need-cast-result
 cast-result c = record { fits = omega (arith, trailing-fits (c .word .result)) }
 
@@ -17,4 +14,4 @@ returns : tie.Need-returns
 returns c = trailing-least 64 _ ∙ ap (least 64) (sym (c .word .ensures))
 
 pub first-spec : {M : Type 1} → statement M
-first-spec = tie.close (tie.spec word-requires cast-result returns)
+first-spec = tie.close (tie.spec (λ c κs. search needs) cast-result returns)

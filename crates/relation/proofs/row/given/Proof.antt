@@ -8,11 +8,8 @@ use Rattle.relation.proofs.row.given.Tie as tie
 returns : tie.Need-returns
 returns c = given-yes _ _ (c .if1 .taken)
 
-none-requires : tie.Need-none-requires
-none-requires c κs = search needs
-
 returns-2 : tie.Need-returns-2
 returns-2 c = c .none .ensures ∙ given-no _ _ (c .before .if1 .left)
 
 pub given-spec : {M : Type 1} → statement M
-given-spec = tie.close (tie.spec returns none-requires returns-2)
+given-spec = tie.close (tie.spec returns (λ c κs. search needs) returns-2)

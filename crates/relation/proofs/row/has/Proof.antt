@@ -6,14 +6,8 @@ use borrow.Author.Needs.{needs}
 use Rattle.relation.proofs.row.has.Statement.{statement}
 use Rattle.relation.proofs.row.has.Tie as tie
 
-word-requires : tie.Need-word-requires
-word-requires c κs = search needs
-
-shr-result : tie.Need-shr-result
-shr-result c = search needs
-
 returns : tie.Need-returns
 returns c = on-has _ _ ∙ ap (λ (s : Set). s (c .before .args .j)) (sym (c .word .ensures))
 
 pub has-spec : {M : Type 1} → statement M
-has-spec = tie.close (tie.spec word-requires shr-result returns)
+has-spec = tie.close (tie.spec (λ c κs. search needs) (λ c. search needs) returns)

@@ -9,12 +9,6 @@ use Rattle.relation.proofs.row.next.Tie as tie
 returns : tie.Need-returns
 returns c = next-end _ _ (c .if1 .taken)
 
-word-requires : tie.Need-word-requires
-word-requires c κs = search needs
-
-shr-n : tie.Need-shr-n
-shr-n c = search needs
-
 cast-n : tie.Need-cast-n
 cast-n c = record { fits = omega (arith, trailing-fits (c .word .result / 2 ^ c .before .before .args .i)) }
 
@@ -28,4 +22,4 @@ returns-3 : tie.Need-returns-3
 returns-3 c = next-none _ _ (c .before .word .ensures) _ (c .before .before .before .pre) (c .if2 .left)
 
 pub next-spec : {M : Type 1} → statement M
-next-spec = tie.close (tie.spec returns word-requires shr-n cast-n add-n returns-2 returns-3)
+next-spec = tie.close (tie.spec returns (λ c κs. search needs) (λ c. search needs) cast-n add-n returns-2 returns-3)

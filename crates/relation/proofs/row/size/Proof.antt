@@ -9,9 +9,6 @@ use borrow.Author.Needs.{needs}
 use Rattle.relation.proofs.row.size.Statement.{statement}
 use Rattle.relation.proofs.row.size.Tie as tie
 
-word-requires : tie.Need-word-requires
-word-requires c κs = search needs
-
 cast-result : tie.Need-cast-result
 cast-result c = (let f : Fits w64 (c .word .result) = search needs in record { fits = omega (arith, ones-few (c .word .result) (f .fits)) })
 
@@ -19,4 +16,4 @@ returns : tie.Need-returns
 returns c = (let f : Fits w64 (c .word .result) = search needs in ones-count 64 _ (f .fits) ∙ ap (count 64) (sym (c .word .ensures)))
 
 pub size-spec : {M : Type 1} → statement M
-size-spec = tie.close (tie.spec word-requires cast-result returns)
+size-spec = tie.close (tie.spec (λ c κs. search needs) cast-result returns)

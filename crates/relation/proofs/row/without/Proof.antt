@@ -5,17 +5,8 @@ use borrow.Author.Needs.{needs}
 use Rattle.relation.proofs.row.without.Statement.{statement}
 use Rattle.relation.proofs.row.without.Tie as tie
 
-word-requires : tie.Need-word-requires
-word-requires c κs = search needs
-
-shl-bytes : tie.Need-shl-bytes
-shl-bytes c = search needs
-
-bytes-requires : tie.Need-bytes-requires
-bytes-requires c κs = search needs
-
 returns : tie.Need-returns
 returns c = c .bytes .ensures ∙ on-without _ _ _ (c .before .word .ensures) (c .before .before .pre)
 
 pub without-spec : {M : Type 1} → statement M
-without-spec = tie.close (tie.spec word-requires shl-bytes bytes-requires returns)
+without-spec = tie.close (tie.spec (λ c κs. search needs) (λ c. search needs) (λ c κs. search needs) returns)

@@ -8,18 +8,9 @@ use Rattle.translation.proofs.event.inserted.Tie as tie
 events-requires : tie.Need-events-requires
 events-requires c κs = sized _ (c .before .pre .0)
 
-add-result : tie.Need-add-result
-add-result c = search needs
-
-strong-below-requires : tie.Need-strong-below-requires
-strong-below-requires c κs = search needs
-
-add-result-2 : tie.Need-add-result-2
-add-result-2 c = search needs
-
 returns : tie.Need-returns
 returns c = inserted-is _ _ _ _ (c .before .events .ensures .0) (c .strong-below .ensures .0)
 
 pub inserted-spec : {M : Type 1} → statement M
 inserted-spec =
-    tie.close (tie.spec events-requires add-result strong-below-requires add-result-2 returns)
+    tie.close (tie.spec events-requires (λ c. search needs) (λ c κs. search needs) (λ c. search needs) returns)

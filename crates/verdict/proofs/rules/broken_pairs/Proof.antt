@@ -6,15 +6,9 @@ use borrow.Author.Needs.{needs}
 use Rattle.verdict.proofs.rules.broken_pairs.Statement.{statement}
 use Rattle.verdict.proofs.rules.broken_pairs.Tie as tie
 
-then-requires : tie.Need-then-requires
-then-requires c κs = search needs
-
-and-requires : tie.Need-and-requires
-and-requires c κs = search needs
-
 returns : tie.Need-returns
 unfolding eval
 returns c = λ B p q r. holds B broken-pair (is-meet (given p) (is-then (given q) (given r) (c .before .then .ensures)) (c .and .ensures))
 
 pub broken-pairs-spec : {M : Type 1} → statement M
-broken-pairs-spec = tie.close (tie.spec then-requires and-requires returns)
+broken-pairs-spec = tie.close (tie.spec (λ c κs. search needs) (λ c κs. search needs) returns)

@@ -5,15 +5,9 @@ use borrow.Author.Needs.{needs}
 use Rattle.verdict.proofs.rules.fr.Statement.{statement}
 use Rattle.verdict.proofs.rules.fr.Tie as tie
 
-inverse-requires : tie.Need-inverse-requires
-inverse-requires c κs = search needs
-
-then-requires : tie.Need-then-requires
-then-requires c κs = search needs
-
 returns : tie.Need-returns
 unfolding eval
 returns c = λ B p q. holds B fr (is-then (is-inverse (given p) (c .before .inverse .ensures)) (given q) (c .then .ensures))
 
 pub fr-spec : {M : Type 1} → statement M
-fr-spec = tie.close (tie.spec inverse-requires then-requires returns)
+fr-spec = tie.close (tie.spec (λ c κs. search needs) (λ c κs. search needs) returns)

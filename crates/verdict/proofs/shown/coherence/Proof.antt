@@ -4,20 +4,11 @@ use borrow.Author.Needs.{needs}
 use Rattle.verdict.proofs.shown.coherence.Statement.{statement}
 use Rattle.verdict.proofs.shown.coherence.Tie as tie
 
-first-requires : tie.Need-first-requires
-first-requires c κs = search needs
-
-broken-ring-requires : tie.Need-broken-ring-requires
-broken-ring-requires c κs = search needs
-
 returns : tie.Need-returns
 returns c =
     λ M B s e hold is p q around. let found = c .broken-ring .ensures in
     tried-3 M B s e _ hold (event-found _ _ _ (c .before .before .first .ensures) is (c .before .if1 .taken)) around (found .0) (found .1 .0)
     (ring-same _ _ s e _ p q (found .1 .1))
-
-unbroken-requires : tie.Need-unbroken-requires
-unbroken-requires c κs = search needs
 
 returns-2 : tie.Need-returns-2
 returns-2 c =
@@ -26,4 +17,4 @@ returns-2 c =
 
 pub coherence-spec : {M : Type 1} → statement M
 coherence-spec =
-    tie.close (tie.spec first-requires broken-ring-requires returns unbroken-requires returns-2)
+    tie.close (tie.spec (λ c κs. search needs) (λ c κs. search needs) returns (λ c κs. search needs) returns-2)

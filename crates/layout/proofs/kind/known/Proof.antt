@@ -1,10 +1,10 @@
--- `causes::known` meets its contract.
+-- `kind::known` meets its contract.
 use mathlib.Core.Path.{refl}
 use borrow.Author.Tests.{eq-eqb, ne-eqb}
 use Rattle.layout.specs.Layout.{kindKnown}
 use Rattle.layout.proofs.FieldLaws.{or-yes, or-no}
-use Rattle.recording.proofs.causes.known.Statement.{statement}
-use Rattle.recording.proofs.causes.known.Tie as tie
+use Rattle.layout.proofs.kind.known.Statement.{statement}
+use Rattle.layout.proofs.kind.known.Tie as tie
 
 returns : tie.Need-returns
 unfolding kindKnown
