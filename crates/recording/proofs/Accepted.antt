@@ -11,7 +11,7 @@ use lib.ListN.{length}
 use Rattle.relation.specs.Rel.{Set, some}
 use Rattle.relation.proofs.Meaning.{and-left, and-right, and-both, or-either}
 use Rattle.models.proofs.FirstLaws.{testOf, positive, first-fails, NonePass, none-first}
-use Rattle.layout.specs.Layout.{kind, side, source, events, locations, links, kindKnown, mostEvents, mostLinks, fullLength, linkByte, Sized}
+use Rattle.layout.specs.Layout.{kind, sideOf, side, source, chip, events, locations, links, kindKnown, mostEvents, mostLinks, fullLength, linkByte, Sized}
 use Rattle.layout.specs.Chains.{each, threadsSound, linksSound, linksInto, allOf}
 use Rattle.layout.specs.Decode.{isRecorded, decode}
 use Rattle.recording.specs.Causes.{eventLegal, linkLegal, linkSound, oneSource, tooShort, kindUnknown, overLimit, wrongLength, badEvent, badThreads, badChains, badLink, coRing, unpaired, linksSoundAt, headerCauses, recordCauses, linkCauses, causes, refusal}
@@ -66,7 +66,7 @@ all-of-some (x ∷ l) p s e q =
 
 -- What the tests say of a file that loads.
 module _ (f : List ℕ) (loads : refusal f ≡ 0) where
-  pub known : kindKnown (kind f) ≡ true
+  known : kindKnown (kind f) ≡ true
   unfolding cause kindUnknown
   known = not-false (kindKnown (kind f)) (passes f loads 2)
 
@@ -120,3 +120,16 @@ unfolding mostEvents mostLinks
 source-limits f s =
     let w = limits f (within f (s .loads)) in
     (rw (ap mostEvents (s .side-is)) at (w .0), w .1, rw (ap mostLinks (s .side-is)) at (w .2))
+
+-- The kinds of the sides: a file that loads as source has kind 1, and one that loads as chip has kind 2.
+pub source-kind : (f : List ℕ) → LoadsAs source f → kind f ≡ 1
+unfolding sideOf
+source-kind f s = eqb-true (kind f) 1 (s .side-is)
+
+pub chip-kind : (f : List ℕ) → LoadsAs chip f → kind f ≡ 2
+unfolding sideOf kindKnown
+chip-kind f s =
+    elim (or-either (eqb (kind f) 1) (eqb (kind f) 2) (known f (s .loads))) [
+      | inl e ↦ absurd (false≢true (sym (s .side-is) ∙ e))
+      | inr e ↦ eqb-true (kind f) 2 e
+    ]
