@@ -220,12 +220,9 @@ chains-are f n m b e q p = ap not (p ∙ ap₂ (λ (k l : ℕ). onceEach l (met 
 pub header-is : (f : List ℕ) (b : Bool) → b ≡ side f → record { source = b; events = events f; locations = locations f; links = links f } ≡ headerOf f
 header-is f b e = ap (λ (x : Bool). record { source = x; events = events f; locations = locations f; links = links f }) e
 
-pub over-of : (f : List ℕ) (h : Header) (b : Bool) → h ≡ headerOf f → b ≡ headerOver (h .source) (h .events) (h .locations) (h .links) → b ≡ overLimit f
+pub over-of : (f : List ℕ) (s b : Bool) → s ≡ side f → b ≡ headerOver s (events f) (locations f) (links f) → b ≡ overLimit f
 unfolding overLimit
-over-of f h b e p = p ∙ ap (λ (x : Header). headerOver (x .source) (x .events) (x .locations) (x .links)) e
-
-pub length-of : (f : List ℕ) (h : Header) → h ≡ headerOf f → 8 + 8 * (h .events) + 4 * (h .links) ≡ fullLength f
-length-of f h e = ap (λ (x : Header). 8 + 8 * (x .events) + 4 * (x .links)) e
+over-of f s b e p = p ∙ ap (λ (x : Side). headerOver x (events f) (locations f) (links f)) e
 
 -- What loading answers.
 pub load-refused : (f : List ℕ) (k : ℕ) → k ≡ refusal f → (k ≡ 0 → ⊥) → Refused k ≡ loadOf f

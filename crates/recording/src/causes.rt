@@ -19,11 +19,11 @@ ghost use Rattle.relation.specs.Bits.{edge};
 ghost use Rattle.relation.specs.Rel.{nodes};
 ghost use Rattle.models.specs.Graph.{base};
 ghost use Rattle.models.specs.Rules.{first};
-ghost use Rattle.layout.specs.Layout.{events, locations, links, Sized};
+ghost use Rattle.layout.specs.Layout.{events, Sized};
 ghost use Rattle.layout.specs.Chains.{each};
 ghost use Rattle.layout.specs.Decode.{decode};
 ghost use Rattle.reading.specs.Readable.{Readable, Chained};
-ghost use Rattle.recording.specs.Causes.{linksSoundAt, pairedAt, headerOver, headerCauses, recordCauses, linkCauses, refusal, badThreads, badChains, coRing};
+ghost use Rattle.recording.specs.Causes.{linksSoundAt, pairedAt, headerOver, headerCauses, recordCauses, linkCauses, badThreads, badChains, coRing};
 ghost use Rattle.recording.specs.Load.{headerOf, loadOf, numberOf, causeFor};
 
 // Whether all links are sound.
@@ -132,27 +132,10 @@ pub fn link_refusal(file: &[u8]) -> u8
     0
 }
 
-// What the header says.
-pub fn header(file: &[u8]) -> Header
-    requires { ⌜ 8 ≤ length (now file) ⌝ }
-    ensures { λ r. ⌜ (r ≡ headerOf (now (file .entry))) × (r .events < 256) × (r .links < 256) ⌝ }
-{
-    Header {
-        source: kind::side_of(file[0] as usize),
-        events: file[1] as usize,
-        locations: file[2] as usize,
-        links: file[3] as usize,
-    }
-}
-
 // Whether N, L or M is over its limit.
-pub fn over_limit(h: Header) -> bool
-    ensures { λ r. ⌜ r ≡ headerOver (h .source) (h .events) (h .locations) (h .links) ⌝ }
+pub fn over_limit(source: bool, n: usize, l: usize, m: usize) -> bool
+    ensures { λ r. ⌜ r ≡ headerOver source n l m ⌝ }
 {
-    let source = h.source;
-    let n = h.events;
-    let l = h.locations;
-    let m = h.links;
     if kind::most_events(source) < n {
         return true;
     }
@@ -170,43 +153,50 @@ pub fn header_refusal(file: &[u8]) -> u8
     if file.len() < 8 {
         return 1;
     }
-    if !kind::known(file[0] as usize) {
+    let kind = file[0] as usize;
+    if !kind::known(kind) {
         return 2;
     }
-    let h = header(file);
-    if over_limit(h) {
+    let n = file[1] as usize;
+    let l = file[2] as usize;
+    let m = file[3] as usize;
+    if over_limit(kind::side_of(kind), n, l, m) {
         return 3;
     }
-    let n = h.events;
-    let m = h.links;
     if file.len() != 8 + 8 * n + 4 * m {
         return 4;
     }
     0
 }
 
-// The first cause that applies, or 0.
-pub fn refusal(file: &[u8]) -> u8
-    ensures { λ r. ⌜ r ≡ refusal (now (file .entry)) ⌝ }
+// What the header says.
+pub fn header(file: &[u8]) -> Header
+    requires { ⌜ 8 ≤ length (now file) ⌝ }
+    ensures { λ r. ⌜ r ≡ headerOf (now (file .entry)) ⌝ }
 {
-    let k = header_refusal(file);
-    if k != 0 {
-        return k;
+    Header {
+        source: kind::side_of(file[0] as usize),
+        events: file[1] as usize,
+        locations: file[2] as usize,
+        links: file[3] as usize,
     }
-    let j = record_refusal(file);
-    if j != 0 {
-        return j;
-    }
-    link_refusal(file)
 }
 
 // Loads a file: refused with the number of the first cause that applies, or loaded with its header.
 pub fn load(file: &[u8]) -> Load
     ensures { λ r. ⌜ r ≡ loadOf (now (file .entry)) ⌝ }
 {
-    let k = refusal(file);
+    let k = header_refusal(file);
     if k != 0 {
         return Load::Refused(k);
+    }
+    let j = record_refusal(file);
+    if j != 0 {
+        return Load::Refused(j);
+    }
+    let i = link_refusal(file);
+    if i != 0 {
+        return Load::Refused(i);
     }
     Load::Loaded(header(file))
 }

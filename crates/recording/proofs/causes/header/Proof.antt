@@ -20,7 +20,7 @@ cast-t14 c = omega (arith, c .shared-slice-known5 .given 3)
 returns : tie.Need-returns
 returns c =
     let read = c .before .before .before in
-    (header-is (read .before .before .before .args .file .now) _ (read .side-of .ensures), omega (arith, c .shared-slice-known5 .given 1), omega (arith, c .shared-slice-known5 .given 3))
+    header-is (read .before .before .before .args .file .now) _ (read .side-of .ensures)
 
 pub header-spec : {M : Type 1} → statement M
 header-spec =
