@@ -2,13 +2,13 @@
 use mathlib.Core.Path.{_≡_, refl, sym, ap, ap₂, subst, _∙_}
 use mathlib.Core.Bool.{Bool, true, false, not, _&&_, _||_, false≢true}
 use mathlib.Core.List.{List, [], _∷_, _++_}
-use Prim.Native.Nat.{ℕ, zero, suc, _+_, _<_, _≤_}
+use Prim.Native.Nat.{ℕ, zero, suc, _+_, _-_, _<_, _≤_}
 use native.Mathlib.Numerals.{add-one}
 use native.Mathlib.Omega.{arith}
 use native.Mathlib.Decide.{ℕ-discrete}
 use borrow.Author.Tests.{eq-eqb, ne-eqb, le-leb, lt-leb}
 use lib.Dec.{eqb, leb}
-use lib.ListN.{getD, set, replicate, length-set}
+use lib.ListN.{length, getD, set, replicate, length-set}
 use lib.Seq.{getD-set-same, getD-set-other}
 use Rattle.relation.proofs.Meaning.{and-left, and-right}
 use Rattle.relation.proofs.SetLaws.{or-false, and-false}
@@ -116,6 +116,36 @@ module _ (limit : ℕ) (next : ℕ → ℕ) (l whole : List ℕ) (n x : ℕ) (at
     where
       tests : leb x limit ≡ true → among x (w .seen) ≡ false → leb x limit && not (among x (w .seen)) ≡ true
       tests a b = ap₂ (λ (s t : Bool). s && not t) a b
+
+-- A chain counted in part: n numbers were met, and the rest is the chain from x.
+pub record Counted (limit : ℕ) (next : ℕ → ℕ) (whole : List ℕ) (n x : ℕ) : Type 0 where
+  pub most : n ≤ limit + 1
+  pub rest : length whole ≡ n + length (follow limit next (limit + 1 - n) x)
+
+pub count-begin : (limit : ℕ) (next : ℕ → ℕ) (x : ℕ) → Counted limit next (chain limit next x) 0 x
+count-begin limit next x =
+    let all : suc limit ≡ limit + 1 - 0 = omega arith in
+    record { most = omega arith; rest = omega (arith, ap (λ (k : ℕ). length (follow limit next k x)) all) }
+
+module _ (limit : ℕ) (next : ℕ → ℕ) (whole : List ℕ) (n x : ℕ) (w : Counted limit next whole n x) where
+  pub count-end : x ≡ 0 → n ≡ length whole
+  count-end e = omega (arith, w .rest, ap length (ap (follow limit next (limit + 1 - n)) e ∙ follow-end limit next (limit + 1 - n)))
+
+  pub count-done : limit < n → n ≡ length whole
+  count-done h = omega (arith, w .rest, ap length (follow-none limit next (limit + 1 - n) x (omega arith)))
+
+  -- One number more.
+  one-more : n ≤ limit → follow limit next (limit + 1 - n) x ≡ follow limit next (suc (limit - n)) x
+  one-more h = (let e : limit + 1 - n ≡ suc (limit - n) = omega arith in ap (λ (k : ℕ). follow limit next k x) e)
+
+  pub count-over : n ≤ limit → (x ≡ 0 → ⊥) → limit < x → n + 1 ≡ length whole
+  count-over h d g = omega (arith, w .rest, ap length (one-more h ∙ follow-over limit next (limit - n) x d g))
+
+  pub count-on : (y : ℕ) → n ≤ limit → (x ≡ 0 → ⊥) → x ≤ limit → y ≡ next x → Counted limit next whole (n + 1) y
+  count-on y h d g e =
+      let fewer : limit - n ≡ limit + 1 - (n + 1) = omega arith in
+      let left : follow limit next (limit - n) (next x) ≡ follow limit next (limit + 1 - (n + 1)) y = ap₂ (follow limit next) fewer (sym e) in
+      record { most = omega arith; rest = omega (arith, w .rest, ap length (one-more h ∙ follow-in limit next (limit - n) x d g), ap length left) }
 
 -- Chains one after the other.
 pub fresh-append : (limit : ℕ) (seen xs ys : List ℕ) → fresh limit seen (xs ++ ys) ≡ fresh limit seen xs && fresh limit (pushed xs seen) ys

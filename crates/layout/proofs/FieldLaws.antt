@@ -9,7 +9,7 @@ use borrow.Author.Tests.{le-leb, lt-leb, leb-true, ltb-true, eqb-true}
 use lib.Dec.{leb, ltb, eqb}
 use Rattle.relation.proofs.Meaning.{and-left, and-right, or-either}
 use Rattle.models.specs.Recording.{Recording, event, ofClass}
-use Rattle.layout.specs.Layout.{byte, Side, mostEvents, mostLinks, events, eventByte, firstInitial, locations, Sized}
+use Rattle.layout.specs.Layout.{byte, Side, bySide, mostEvents, mostLinks, events, eventByte, firstInitial, locations, Sized}
 use Rattle.layout.specs.Chains.{nextOf, nextEvent}
 use Rattle.layout.specs.Decode.{isRecorded, isInitial, recordOr, fieldOr, decode}
 
@@ -29,16 +29,17 @@ or-no a b s t p q e = e ∙ ap (λ (x : Bool). x || t) (sym q ∙ p)
 pub is-number : (k a b : ℕ) → a ≡ b → eqb a k ≡ eqb b k
 is-number k a b p = ap (λ (x : ℕ). eqb x k) p
 
--- The limits of either side.
+-- A limit of either side is at most the larger, and the limits by name.
+by-side-most : (a b : ℕ) (s : Side) → a ≤ b → bySide a b s ≤ b
+unfolding bySide
+by-side-most a b true h = h
+by-side-most a b false h = omega arith
+
 pub most-events-48 : (s : Side) → mostEvents s ≤ 48
-unfolding mostEvents
-most-events-48 true = omega arith
-most-events-48 false = omega arith
+most-events-48 s = by-side-most 32 48 s (omega arith)
 
 pub most-links-255 : (s : Side) → mostLinks s ≤ 255
-unfolding mostLinks
-most-links-255 true = omega arith
-most-links-255 false = omega arith
+most-links-255 s = by-side-most 200 255 s (omega arith)
 
 -- Recorded events.
 pub recorded-yes : (f : List ℕ) (e n : ℕ) → n ≡ events f → 1 ≤ e → leb e n ≡ isRecorded f e

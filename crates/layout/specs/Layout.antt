@@ -44,15 +44,21 @@ sideOf k = eqb k 1
 abbrev pub side : List ℕ → Side
 side f = sideOf (kind f)
 
--- The limits, of source and of chip.
-unfoldable pub mostEvents : Side → ℕ
-mostEvents s = elim s [ true ↦ 32 | false ↦ 48 ]
+-- The limits, of source and of chip: event records, locations, link records, and events of one thread (02, request 1).
+unfoldable pub bySide : ℕ → ℕ → Side → ℕ
+bySide a b s = elim s [ true ↦ a | false ↦ b ]
+
+abbrev pub mostEvents : Side → ℕ
+mostEvents = bySide 32 48
 
 abbrev pub mostLocations : ℕ
 mostLocations = 8
 
-unfoldable pub mostLinks : Side → ℕ
-mostLinks s = elim s [ true ↦ 200 | false ↦ 255 ]
+abbrev pub mostLinks : Side → ℕ
+mostLinks = bySide 200 255
+
+abbrev pub mostInThread : Side → ℕ
+mostInThread = bySide 12 18
 
 abbrev pub headerSize : ℕ
 headerSize = 8

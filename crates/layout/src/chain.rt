@@ -68,6 +68,28 @@ pub fn follow(
     true
 }
 
+// How many numbers the chain from a start meets.
+pub fn count(file: &[u8], from: usize, size: usize, limit: usize, start: Cursor) -> usize
+    requires { ⌜ Linked (now file) 0 0 0 from size limit ⌝ }
+    ensures { λ r. ⌜ r ≡ length (chain limit (nextOf (now (file .entry)) from size) (start .at)) ⌝ }
+{
+    let mut cursor = start;
+    let mut n: usize = 0;
+    while n <= limit {
+        let x = cursor.at;
+        if x == 0 {
+            return n;
+        }
+        n += 1;
+        if limit < x {
+            return n;
+        }
+        let next = cursor.moved(file, from, size);
+        cursor = next;
+    }
+    n
+}
+
 // Whether every number from 1 to limit is marked.
 pub fn all_marked(marks: [u8; 256], limit: usize) -> bool
     requires { ⌜ limit < 256 ⌝ }

@@ -1,7 +1,7 @@
 // What varies by kind: the kinds that there are, the side of each, and the limits of a side.
 
 ghost use mathlib.Core.Path.{_≡_};
-ghost use Rattle.layout.specs.Layout.{kindKnown, sideOf, mostEvents, mostLinks};
+ghost use Rattle.layout.specs.Layout.{kindKnown, sideOf, bySide, mostEvents, mostLinks, mostInThread};
 
 // The sides, as the answer to whether a recording is a source recording.
 pub const SOURCE: bool = true;
@@ -22,22 +22,33 @@ pub fn side_of(kind: usize) -> bool
     kind == 1
 }
 
+// The limit of this side: a of source, b of chip.
+pub fn by_side(a: usize, b: usize, source: bool) -> usize
+    ensures { λ r. ⌜ r ≡ bySide a b source ⌝ }
+{
+    if source {
+        return a;
+    }
+    b
+}
+
 // The most event records of a file of this side.
 pub fn most_events(source: bool) -> usize
     ensures { λ r. ⌜ r ≡ mostEvents source ⌝ }
 {
-    if source {
-        return 32;
-    }
-    48
+    by_side(32, 48, source)
 }
 
 // The most link records of a file of this side.
 pub fn most_links(source: bool) -> usize
     ensures { λ r. ⌜ r ≡ mostLinks source ⌝ }
 {
-    if source {
-        return 200;
-    }
-    255
+    by_side(200, 255, source)
+}
+
+// The most events of a thread of a file of this side.
+pub fn most_in_thread(source: bool) -> usize
+    ensures { λ r. ⌜ r ≡ mostInThread source ⌝ }
+{
+    by_side(12, 18, source)
 }

@@ -27,7 +27,7 @@ fn coded(cause: u8, rule: u8, written: usize) -> u64
     (cause as u64) + 256 * (rule as u64) + 65536 * (written as u64)
 }
 
-// Loads a file: 0 where it loads, and else the number of the first cause of refusal that applies, 1 to 10.
+// Loads a file: 0 where it loads, and else the number of the first cause of refusal that applies, 1 to 10 or 13.
 #[no_mangle]
 pub extern "C" fn probe_load(file: &[u8]) -> u64
     ensures { λ r. ⌜ r ≡ coded (refusal (now (file .entry))) 0 0 ⌝ }
@@ -72,7 +72,7 @@ fn reported(v: Verdict, out: &mut [u8]) -> u64
     answered(number[1], output::fill(out, &at[..n]))
 }
 
-// The IMM verdict on a source file; the events that are shown of it, at most 64, fill the output's start. Refused with a number, 1 to 12,
+// The IMM verdict on a source file; the events that are shown of it, at most 64, fill the output's start. Refused with a number, 1 to 13,
 // the output stays as it was.
 #[no_mangle]
 pub extern "C" fn probe_imm(file: &[u8], out: &mut [u8]) -> u64
@@ -81,7 +81,7 @@ pub extern "C" fn probe_imm(file: &[u8], out: &mut [u8]) -> u64
     reported(imm::file::verdict(file), out)
 }
 
-// The ARMv8 verdict on a chip file; the events that are shown of it, at most 64, fill the output's start. Refused with a number, 1 to 12,
+// The ARMv8 verdict on a chip file; the events that are shown of it, at most 64, fill the output's start. Refused with a number, 1 to 13,
 // the output stays as it was.
 #[no_mangle]
 pub extern "C" fn probe_armv8(file: &[u8], out: &mut [u8]) -> u64
@@ -90,7 +90,7 @@ pub extern "C" fn probe_armv8(file: &[u8], out: &mut [u8]) -> u64
     reported(armv8::file::verdict(file), out)
 }
 
-// Writes the translation of a source file, at most 1320 bytes, to the start of the output. Refused with a number, 1 to 12, the output
+// Writes the translation of a source file, at most 1320 bytes, to the start of the output. Refused with a number, 1 to 13, the output
 // stays as it was.
 #[no_mangle]
 pub extern "C" fn probe_translate(file: &[u8], out: &mut [u8]) -> u64

@@ -3,18 +3,18 @@ use mathlib.Core.Path.{_≡_, refl, sym, ap, _∙_}
 use mathlib.Core.Bool.{Bool, true, false, _&&_, false≢true}
 use mathlib.Core.List.{List, [], _∷_}
 use mathlib.Core.Logic.{inl, inr}
-use Prim.Native.Nat.{ℕ, zero, suc, _≤_}
+use Prim.Native.Nat.{ℕ, zero, suc, _-_, _<_, _≤_}
 use native.Mathlib.Omega.{arith}
-use borrow.Author.Tests.{eqb-true, not-false}
+use borrow.Author.Tests.{eqb-true, leb-true, not-false}
 use lib.Dec.{eqb}
 use lib.ListN.{length}
 use Rattle.relation.specs.Rel.{Set, some}
 use Rattle.relation.proofs.Meaning.{and-left, and-right, and-both, or-either}
 use Rattle.models.proofs.FirstLaws.{testOf, positive, first-fails, NonePass, none-first}
-use Rattle.layout.specs.Layout.{kind, sideOf, side, source, chip, events, locations, links, kindKnown, mostEvents, mostLinks, fullLength, linkByte, Sized}
-use Rattle.layout.specs.Chains.{each, threadsSound, linksSound, linksInto, allOf}
+use Rattle.layout.specs.Layout.{kind, sideOf, side, source, chip, events, locations, links, threads, kindKnown, bySide, mostEvents, mostLinks, mostInThread, fullLength, linkByte, Sized}
+use Rattle.layout.specs.Chains.{each, thread, threadsSound, linksSound, linksInto, allOf}
 use Rattle.layout.specs.Decode.{isRecorded, decode}
-use Rattle.recording.specs.Causes.{eventLegal, linkLegal, linkSound, oneSource, tooShort, kindUnknown, overLimit, wrongLength, badEvent, badThreads, badChains, badLink, coRing, unpaired, linksSoundAt, headerCauses, recordCauses, linkCauses, causes, refusal}
+use Rattle.recording.specs.Causes.{eventLegal, threadFits, linkLegal, linkSound, oneSource, tooShort, kindUnknown, overLimit, wrongLength, badEvent, badThreads, longThread, badChains, badLink, coRing, unpaired, linksSoundAt, headerCauses, recordCauses, linkCauses, causes, refusal}
 use Rattle.recording.specs.Load.{LoadsAs}
 use Rattle.layout.proofs.FieldLaws.{recorded-bounds}
 use Rattle.layout.proofs.ChainLaws.{each-at}
@@ -37,6 +37,7 @@ pub record Accepted (f : List ℕ) : Type 0 where
   pub cause4 : wrongLength f ≡ false
   pub cause5 : badEvent f ≡ false
   pub cause6 : badThreads f ≡ false
+  pub cause13 : longThread f ≡ false
   pub cause7 : badChains f ≡ false
   pub cause8 : badLink f ≡ false
   pub cause9 : coRing f ≡ false
@@ -47,7 +48,7 @@ unfolding refusal causes headerCauses recordCauses linkCauses NonePass
 accepts f a =
     let links : NonePass (linkCauses f) = (a .cause8, (a .cause9, (a .cause10, tt))) in
     none-first (causes f)
-    (a .cause1, (a .cause2, (a .cause3, (a .cause4, (a .cause5, (a .cause6, (a .cause7, links)))))))
+    (a .cause1, (a .cause2, (a .cause3, (a .cause4, (a .cause5, (a .cause6, (a .cause13, (a .cause7, links))))))))
 
 -- `each` and `allOf` at a number.
 pub each-all : (n : ℕ) (p : ℕ → Bool) → ((x : ℕ) → 1 ≤ x → x ≤ n → p x ≡ true) → each n p ≡ true
@@ -89,6 +90,13 @@ module _ (f : List ℕ) (loads : refusal f ≡ 0) where
   unfolding cause badThreads
   threads-sound = not-false _ (passes f loads 6)
 
+  pub thread-length : (t : ℕ) → t < threads → length (thread f t) ≤ mostInThread (side f)
+  unfolding cause longThread threadFits
+  thread-length t h =
+      let same : suc t - 1 ≡ t = omega arith in
+      let fits = each-at threads (threadFits f) (not-false _ (passes f loads 13)) (suc t) (omega arith) (omega arith) in
+      rw same at (leb-true (length (thread f (suc t - 1))) (mostInThread (side f)) fits)
+
   pub links-sound : linksSound f ≡ true
   unfolding cause badChains
   links-sound = not-false _ (passes f loads 7)
@@ -116,10 +124,13 @@ module _ (f : List ℕ) (loads : refusal f ≡ 0) where
 
 -- A source file that loads.
 pub source-limits : (f : List ℕ) → LoadsAs source f → (events f ≤ 32) × (locations f ≤ 8) × (links f ≤ 200)
-unfolding mostEvents mostLinks
+unfolding bySide
 source-limits f s =
     let w = limits f (within f (s .loads)) in
     (rw (ap mostEvents (s .side-is)) at (w .0), w .1, rw (ap mostLinks (s .side-is)) at (w .2))
+
+pub source-thread : (f : List ℕ) → LoadsAs source f → (t : ℕ) → t < threads → length (thread f t) ≤ mostInThread source
+source-thread f s t h = rw (s .side-is) at (thread-length f (s .loads) t h)
 
 -- The kinds of the sides: a file that loads as source has kind 1, and one that loads as chip has kind 2.
 pub source-kind : (f : List ℕ) → LoadsAs source f → kind f ≡ 1

@@ -15,11 +15,11 @@ use Rattle.models.specs.Recording.{Recording, event, ofClass, flagged}
 use Rattle.models.specs.Graph.{base}
 use Rattle.models.specs.Rules.{first}
 use Rattle.models.proofs.FirstLaws.{positive, first-stops, first-goes-on, first-front}
-use Rattle.layout.specs.Layout.{Side, side, events, locations, links, linkByte, mostEvents, mostLinks, fullLength, Sized}
-use Rattle.layout.specs.Chains.{among, chain, met, fresh, pushed, onceEach, nextOf, startOf, nextLink, firstLink, linksInto, linksSound, allOf}
+use Rattle.layout.specs.Layout.{Side, side, events, locations, links, linkByte, mostEvents, mostLinks, mostInThread, fullLength, Sized}
+use Rattle.layout.specs.Chains.{among, chain, met, fresh, pushed, onceEach, nextOf, startOf, head, nextLink, firstLink, linksInto, linksSound, allOf}
 use Rattle.layout.specs.Decode.{decode}
 use Rattle.reading.specs.Readable.{within, readable, Chained, Readable}
-use Rattle.recording.specs.Causes.{rfLegal, coLegal, rmwLegal, fromRead, dataLegal, addrLegal, ctrlLegal, casdepLegal, linkLegal, linkSound, oneSource, linksSoundAt, pairedAt, headerOver, overLimit, badThreads, badChains, badLink, headerCauses, recordCauses, linkCauses, causes, refusal}
+use Rattle.recording.specs.Causes.{rfLegal, coLegal, rmwLegal, fromRead, dataLegal, addrLegal, ctrlLegal, casdepLegal, linkLegal, linkSound, oneSource, linksSoundAt, pairedAt, threadFits, headerOver, overLimit, badThreads, badChains, badLink, headerCauses, recordCauses, linkCauses, causes, refusal}
 use Rattle.recording.specs.Load.{headerOf, answer, loadOf, numberOf, LoadsAs, otherSide, causeFor}
 use Rattle.recording.specs.declared.Header.{Header}
 use Rattle.recording.specs.declared.Load.{Load}
@@ -206,10 +206,16 @@ sized-of f e long =
     let w = limits f e in
     record { long = long; most-events = omega (arith, w .0, most-events-48 (side f)); most-locations = w .1 }
 
--- Causes 6 and 7, with the counts read from the header.
+-- Causes 6, 13 and 7, with what is read from the file.
 pub threads-are : (f : List ℕ) (n : ℕ) (b : Bool) → n ≡ events f → b ≡ onceEach n (met n (nextOf f 8 8) (startOf f 4 1) 4) → not b ≡ badThreads f
 unfolding badThreads
 threads-are f n b e p = ap not (p ∙ ap (λ (k : ℕ). onceEach k (met k (nextOf f 8 8) (startOf f 4 1) 4)) e)
+
+pub fits-are : (f : List ℕ) (t n x k m : ℕ) (s : Side) → n ≡ events f → x ≡ head f (t - 1) → k ≡ length (chain n (nextOf f 8 8) x) → s ≡ side f
+    → m ≡ mostInThread s → leb k m ≡ threadFits f t
+unfolding threadFits
+fits-are f t n x k m s e h p q l =
+    ap₂ leb (p ∙ ap₂ (λ (i j : ℕ). length (chain i (nextOf f 8 8) j)) e h) (l ∙ ap mostInThread q)
 
 pub chains-are : (f : List ℕ) (n m : ℕ) (b : Bool) → n ≡ events f → m ≡ links f
     → b ≡ onceEach m (met m (nextOf f (8 + 8 * n) 4) (startOf f 15 8) n) → not b ≡ badChains f

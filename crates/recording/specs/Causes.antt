@@ -1,15 +1,16 @@
--- The causes of refusal 1 to 10 (01, "Causes of refusal, in order"): each is one definition, and `refusal` is the first that applies.
+-- The causes of refusal 1 to 10 (01, "Causes of refusal, in order") and 13 (02, request 1): each is one definition, and `refusal` is the first that
+-- applies.
 use mathlib.Core.Bool.{Bool, true, false, _&&_, _||_, not}
 use mathlib.Core.List.{List, [], _∷_, _++_}
-use Prim.Native.Nat.{ℕ}
+use Prim.Native.Nat.{ℕ, _-_}
 use lib.Dec.{eqb, leb, ltb}
 use lib.ListN.{length, getD}
 use Rattle.relation.specs.Rel.{some, inverse, diagonal, nodes}
 use Rattle.models.specs.Recording.{Recording, read, write, access, exclusiveRead, strongWrite}
 use Rattle.models.specs.Graph.{base}
 use Rattle.models.specs.Rules.{Numbered, first}
-use Rattle.layout.specs.Layout.{Side, kind, side, events, locations, links, kindKnown, mostEvents, mostLocations, mostLinks, headerSize, fullLength, linkByte}
-use Rattle.layout.specs.Chains.{each, allOf, threadsSound, linksSound, linksInto}
+use Rattle.layout.specs.Layout.{Side, kind, side, events, locations, links, threads, kindKnown, mostEvents, mostLocations, mostLinks, mostInThread, headerSize, fullLength, linkByte}
+use Rattle.layout.specs.Chains.{each, allOf, thread, threadsSound, linksSound, linksInto}
 use Rattle.layout.specs.Decode.{decode}
 
 -- 3. The limits by side.
@@ -46,6 +47,10 @@ unfoldable pub eventLegal : List ℕ → ℕ → Bool
 eventLegal f e =
     let r : Recording ℕ = decode f in
     legal (side f) (locations f) (r .class e) (r .mode e) (r .flag e) (r .location e) (r .value e)
+
+-- 13. Thread t, from 1, has no more events than its side allows.
+unfoldable pub threadFits : List ℕ → ℕ → Bool
+threadFits f t = leb (length (thread f (t - 1))) (mostInThread (side f))
 
 -- 8. The conditions of a link by its type, from a to b of a recording.
 module _ (r : Recording ℕ) where
@@ -133,6 +138,10 @@ module _ (f : List ℕ) where
   unfoldable pub badThreads : Bool
   badThreads = not (threadsSound f)
 
+  -- 13 thread longer than its limit
+  unfoldable pub longThread : Bool
+  longThread = not (each threads (threadFits f))
+
   -- 7 link chain: index over M, link met twice or never
   unfoldable pub badChains : Bool
   badChains = not (linksSound f)
@@ -154,7 +163,7 @@ module _ (f : List ℕ) where
   headerCauses = (1, tooShort) ∷ (2, kindUnknown) ∷ (3, overLimit) ∷ (4, wrongLength) ∷ []
 
   unfoldable pub recordCauses : List Numbered
-  recordCauses = (5, badEvent) ∷ (6, badThreads) ∷ (7, badChains) ∷ []
+  recordCauses = (5, badEvent) ∷ (6, badThreads) ∷ (13, longThread) ∷ (7, badChains) ∷ []
 
   unfoldable pub linkCauses : List Numbered
   linkCauses = (8, badLink) ∷ (9, coRing) ∷ (10, unpaired) ∷ []

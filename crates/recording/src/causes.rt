@@ -5,6 +5,7 @@ use crate::Load;
 use crate::legal;
 use crate::links;
 use layout::chain;
+use layout::chain::Cursor;
 use layout::field;
 use layout::kind;
 use reading::graph;
@@ -19,11 +20,11 @@ ghost use Rattle.relation.specs.Bits.{edge};
 ghost use Rattle.relation.specs.Rel.{nodes};
 ghost use Rattle.models.specs.Graph.{base};
 ghost use Rattle.models.specs.Rules.{first};
-ghost use Rattle.layout.specs.Layout.{events, Sized};
+ghost use Rattle.layout.specs.Layout.{events, threads, Sized};
 ghost use Rattle.layout.specs.Chains.{each};
 ghost use Rattle.layout.specs.Decode.{decode};
 ghost use Rattle.reading.specs.Readable.{Readable, Chained};
-ghost use Rattle.recording.specs.Causes.{linksSoundAt, pairedAt, headerOver, headerCauses, recordCauses, linkCauses, badThreads, badChains, coRing};
+ghost use Rattle.recording.specs.Causes.{threadFits, linksSoundAt, pairedAt, headerOver, headerCauses, recordCauses, linkCauses, badThreads, badChains, coRing};
 ghost use Rattle.recording.specs.Load.{headerOf, loadOf, numberOf, causeFor};
 
 // Whether all links are sound.
@@ -87,6 +88,32 @@ pub fn threads_sound(file: &[u8]) -> bool
     chain::once_each(file, 4, 1, 4, 8, 8, n)
 }
 
+// Whether thread t, from 1, has no more events than a file of this side may have.
+pub fn thread_fits(file: &[u8], t: usize) -> bool
+    requires { ⌜ Sized (now file) × (1 ≤ t) × (t ≤ threads) ⌝ }
+    ensures { λ r. ⌜ r ≡ threadFits (now (file .entry)) t ⌝ }
+{
+    let n = field::events(file);
+    let start = Cursor::start(file, 4, 1, t - 1);
+    let long = chain::count(file, 8, 8, n, start);
+    long <= kind::most_in_thread(field::side(file))
+}
+
+// Whether every thread does.
+pub fn threads_fit(file: &[u8]) -> bool
+    requires { ⌜ Sized (now file) ⌝ }
+    ensures { λ r. ⌜ r ≡ each threads (threadFits (now (file .entry))) ⌝ }
+{
+    let mut t: usize = 0;
+    while t < 4 {
+        t += 1;
+        if !thread_fits(file, t) {
+            return false;
+        }
+    }
+    true
+}
+
 // Whether the event chains meet every link once: the first link into an event is the last byte of its record, byte 15 for event 1;
 // link records of 4 bytes stand behind the event records.
 pub fn chains_sound(file: &[u8]) -> bool
@@ -98,7 +125,7 @@ pub fn chains_sound(file: &[u8]) -> bool
     chain::once_each(file, 15, 8, n, 8 + 8 * n, 4, m)
 }
 
-// The first of the causes of the records and their chains, 5 to 7, that applies, or 0.
+// The first of the causes of the records and their chains, 5, 6, 13 and 7, that applies, or 0.
 pub fn record_refusal(file: &[u8]) -> u8
     requires { ⌜ Sized (now file) ⌝ }
     ensures { λ r. ⌜ r ≡ first (recordCauses (now (file .entry))) ⌝ }
@@ -108,6 +135,9 @@ pub fn record_refusal(file: &[u8]) -> u8
     }
     if !threads_sound(file) {
         return 6;
+    }
+    if !threads_fit(file) {
+        return 13;
     }
     if !chains_sound(file) {
         return 7;

@@ -68,7 +68,7 @@ module _ (f : List ℕ) (s : Source f) where
           (p .0 - 1, omega (arith, r .low, r .high), before e (ap (exclusive (contents f)) same ∙ p .1) (ap (nextEvent f) same ∙ p .2))
       go (suc (suc d)) e g = absurd (omega arith)
 
-  not-both : (v w : ℕ) → v ≡ w → strong (contents f) v ≡ true → exclusive (contents f) w ≡ true → ⊥
+  pub not-both : (v w : ℕ) → v ≡ w → strong (contents f) v ≡ true → exclusive (contents f) w ≡ true → ⊥
   not-both v w e h g = omega (arith, flagged-is (contents f) 2 v h .class, flagged-is (contents f) 1 w g .class, ap (contents f .class) e)
 
   halves-once : (j k x : ℕ) → Halves j x → Halves k x → j ≡ k

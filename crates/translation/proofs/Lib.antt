@@ -11,6 +11,7 @@ pub mod Bounds
 pub mod Relates
 pub mod LegalEvents
 pub mod LegalLinks
+pub mod Threads
 pub mod TranslationLoads
 pub mod EventLaws
 pub mod LinkRows

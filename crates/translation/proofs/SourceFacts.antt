@@ -52,7 +52,7 @@ module _ (f : List ℕ) (s : Source f) where
   link-target t a b e = recorded-bounds f b (and-left (isRecorded f b) (some (linksInto f b) (λ m. eqb (linkByte f m 1) t && eqb (linkByte f m 2) a)) e)
 
   -- Chains.
-  threads-fresh : fresh (events f) [] (threadsUpTo f threads) ≡ true
+  pub threads-fresh : fresh (events f) [] (threadsUpTo f threads) ≡ true
   unfolding onceEach
   threads-fresh =
       let l = threadsUpTo f threads in

@@ -1,7 +1,7 @@
 -- The theorems of the translation of a source file that loads (01, "The translation").
 use mathlib.Core.Path.{_≡_}
 use mathlib.Core.List.{List}
-use Prim.Native.Nat.{ℕ, _≤_}
+use Prim.Native.Nat.{ℕ, _<_, _≤_}
 use native.Mathlib.Omega.{arith}
 use lib.ListN.{length}
 use Rattle.relation.specs.Rel.{nodes}
@@ -10,15 +10,17 @@ use Rattle.models.specs.Rules.{IMM, ARMv8, verdict}
 use Rattle.models.specs.Translated.{Translated}
 use Rattle.models.proofs.Sound.{verdict-sound}
 use Rattle.layout.specs.Layout as layout
-use Rattle.layout.specs.Layout.{events, links}
+use Rattle.layout.specs.Layout.{events, links, threads}
 use Rattle.layout.specs.Decode.{decode}
 use Rattle.recording.specs.Load.{LoadsAs}
 use Rattle.recording.proofs.Loaded as loaded
 use Rattle.translation.specs.Translate.{translated}
 use Rattle.translation.specs.Translation.{chip, translation}
 use Rattle.translation.specs.Parts.{Source}
+use Rattle.translation.specs.Threads.{ThreadTranslated}
 use Rattle.translation.proofs.EncodeLaws.{encode-events, encode-links, encode-length}
 use Rattle.translation.proofs.Bounds.{most-events, most-links}
+use Rattle.translation.proofs.Threads.{thread-translated}
 use Rattle.translation.proofs.TranslationLoads.{translated-relates, translation-accepted, translation-side}
 
 module _ (f : List ℕ) (given : Source f) where
@@ -38,6 +40,10 @@ module _ (f : List ℕ) (given : Source f) where
   pub few-bytes : length (translation f) ≤ 1320
   unfolding translation translated
   few-bytes = omega (arith, encode-length (chip f), most-events f given, most-links f given (chip f .events))
+
+  -- "Eighteen is enough, since a thread of 12 has at most six strong writes."
+  pub threads-translated : (t : ℕ) → t < threads → ThreadTranslated f t
+  threads-translated = thread-translated f given
 
   -- The translation is related to its source as the soundness of the mapping asks.
   pub translation-related : Translated (decode f) (decode (translation f))

@@ -1,12 +1,12 @@
 -- Every translation of a source file that loads, loads, and is related to the source as `models` asks.
 use mathlib.Core.Path.{_≡_, refl, sym, ap, _∙_}
 use mathlib.Core.Bool.{true, false, not, _&&_, false≢true}
-use mathlib.Core.List.{List, _∷_, _++_}
+use mathlib.Core.List.{List}
 use mathlib.Core.Logic.{inl, inr}
-use Prim.Native.Nat.{ℕ, zero, suc, _+_, _*_, _<_, _≤_}
+use Prim.Native.Nat.{ℕ, _+_, _-_, _*_, _<_, _≤_}
 use native.Mathlib.Omega.{arith}
-use native.Mathlib.Decide.{ℕ-discrete, decLe}
-use borrow.Author.Tests.{eq-eqb, eqb-true, le-ltb}
+use native.Mathlib.Decide.{decLe}
+use borrow.Author.Tests.{eq-eqb, eqb-true, le-leb, le-ltb}
 use lib.Dec.{T, eqb}
 use lib.ListN.{length}
 use Rattle.relation.specs.Rel.{nodes, inverse, some}
@@ -17,52 +17,29 @@ use Rattle.models.specs.Translated.{Translated}
 use Rattle.models.proofs.FromTranslated.{translation-loads}
 use Rattle.models.proofs.MemberLaws.{class-event}
 use Rattle.layout.specs.Layout as layout
-use Rattle.layout.specs.Layout.{Side, sideOf, side, events, locations, threads, kindKnown, mostEvents, mostLinks, fullLength, linkByte}
-use Rattle.layout.specs.Chains.{nextEvent, head, follow, chain, met, onceEach, linksInto, allOf}
+use Rattle.layout.specs.Layout.{Side, sideOf, side, events, locations, threads, kindKnown, bySide, mostInThread, fullLength, linkByte}
+use Rattle.layout.specs.Chains.{thread, linksInto, allOf}
 use Rattle.layout.specs.Decode.{decode}
-use Rattle.recording.specs.Causes.{eventLegal, legal, linkLegal, linkSound, oneSource, linksSoundAt, pairedAt, headerOver, rfLegal, sameLocations, tooShort, kindUnknown, overLimit, wrongLength, badEvent, badThreads, badChains, badLink, coRing, unpaired, refusal}
-use Rattle.layout.proofs.ChainLaws.{follow-in, follow-over}
+use Rattle.recording.specs.Causes.{eventLegal, threadFits, legal, linkLegal, linkSound, oneSource, linksSoundAt, pairedAt, headerOver, rfLegal, sameLocations, tooShort, kindUnknown, overLimit, wrongLength, badEvent, longThread, badChains, badLink, coRing, unpaired, refusal}
 use Rattle.translation.specs.Contents.{Contents, contents}
-use Rattle.translation.specs.Translate.{flagged, strong, newEvents, after, newFlag, translated}
+use Rattle.translation.specs.Translate.{flagged, strong, newEvents, newFlag, translated}
 use Rattle.translation.specs.Encode.{linksBefore, linksUpTo, linkRecord, encode}
 use Rattle.translation.specs.Translation.{chip, translation}
 use Rattle.translation.specs.Parts.{Source}
 use Rattle.relation.proofs.Truth.{is-true, holds, is-false, by-test}
-use Rattle.recording.proofs.Accepted.{accepts, each-all, legal-event, threads-sound}
-use Rattle.translation.proofs.EncodeLaws.{encode-length, encode-full, encode-kind, encode-events, encode-locations, encode-links, encode-head}
+use Rattle.recording.proofs.Accepted.{accepts, each-all, legal-event}
+use Rattle.translation.proofs.EncodeLaws.{encode-length, encode-full, encode-kind, encode-events, encode-locations, encode-links}
 use Rattle.translation.proofs.Runs.{run-all}
 use Rattle.translation.proofs.EncodedLinks.{numbered, link-byte, linksAt, links-at, links-within, links-into, links-sound, on-chain, encoded-link}
-use Rattle.translation.proofs.Woven.{woven-once}
 use Rattle.translation.proofs.TranslateLaws as law
 use Rattle.translation.proofs.TranslateLaws.{flagged-is, Linked, stays, exclusively, casdep, new-is}
-use Rattle.translation.proofs.Says.{Says, Event, initially, recorded, event-says, flagged-says, encode-says, encode-next}
+use Rattle.translation.proofs.Says.{Says, Event, initially, recorded, event-says, flagged-says, encode-says}
 use Rattle.translation.proofs.SourceFacts as source
 use Rattle.translation.proofs.Bounds.{most-events, most-links, links-fit}
 use Rattle.translation.proofs.LegalEvents.{legalAt, legal-says, fence-modes, write-flags, legal-new}
 use Rattle.translation.proofs.LegalLinks as legality
+use Rattle.translation.proofs.Threads.{threads-fine, thread-translated}
 use Rattle.translation.proofs.Relates.{Sound, relates}
-
--- Chains that agree within the limit meet the same.
-module _ (limit : ℕ) (next next′ : ℕ → ℕ) (same : (x : ℕ) → 1 ≤ x → x ≤ limit → next x ≡ next′ x) where
-  follow-same : (n x : ℕ) → follow limit next n x ≡ follow limit next′ n x
-  unfolding follow
-  follow-same zero x = refl
-  follow-same (suc n) x =
-      elim (ℕ-discrete x 0) [
-        | yes e ↦ ap (follow limit next (suc n)) e ∙ ap (follow limit next′ (suc n)) (sym e)
-        | no d ↦ elim (decLe x limit) [
-          | yes h ↦ follow-in limit next n x d h
-              ∙ ap (_∷_ x) (follow-same n (next x) ∙ ap (follow limit next′ n) (same x (omega (arith, d)) h)) ∙ sym (follow-in limit next′ n x d h)
-          | no h ↦ follow-over limit next n x d (omega (arith, h)) ∙ sym (follow-over limit next′ n x d (omega (arith, h)))
-        ]
-      ]
-
-  met-same : (start start′ : ℕ → ℕ) (n : ℕ) → ((j : ℕ) → j < n → start j ≡ start′ j) → met limit next start n ≡ met limit next′ start′ n
-  unfolding met
-  met-same start start′ zero e = refl
-  met-same start start′ (suc n) e =
-      ap (λ (l : List ℕ). l ++ chain limit next (start n)) (met-same start start′ n (λ j h. e j (omega arith)))
-      ∙ ap (_++_ (met limit next′ start′ n)) (follow-same (suc limit) (start n) ∙ ap (chain limit next′) (e n (omega arith)))
 
 -- rf joins equal values.
 legal-values : (r : Recording ℕ) (s : Side) (a b : ℕ) → linkLegal r s 1 a b ≡ true → r .value a ≡ r .value b
@@ -132,7 +109,7 @@ module _ (f : List ℕ) (s : Source f) where
   chip-side = ap sideOf (encode-kind (chip f))
 
   within-limits : overLimit (encode (chip f)) ≡ false
-  unfolding overLimit headerOver mostEvents mostLinks translated contents
+  unfolding overLimit headerOver bySide translated contents
   within-limits =
       rw (
         chip-side,
@@ -156,14 +133,11 @@ module _ (f : List ℕ) (s : Source f) where
       ∙ ap (λ (r : Side). legalAt r (locations (encode (chip f))) (chip f) e) chip-side ∙ ap (λ (k : ℕ). legalAt layout.chip k (chip f) e) (encode-locations (chip f))
       ∙ legal-new (locations f) old old-legal e h))
 
-  -- 6: the threads.
-  threads-fine : badThreads (encode (chip f)) ≡ false
-  unfolding badThreads translated contents
-  threads-fine =
-      ap (λ (n : ℕ). not (onceEach n (met n (nextEvent (encode (chip f))) (head (encode (chip f))) threads))) (encode-events (chip f))
-      ∙ ap (λ (m : List ℕ). not (onceEach (newEvents old) m))
-      (met-same (newEvents old) (nextEvent (encode (chip f))) (after old) (encode-next (chip f)) (head (encode (chip f))) (head f) threads (encode-head (chip f)))
-      ∙ ap not (woven-once (old .events) (newEvents old) (old .next) (after old) (strong old) _ (law.weaves old (source.few-events f s)) (head f) threads (threads-sound f (s .loads)))
+  -- 6 and 13: the threads.
+  threads-short : longThread (encode (chip f)) ≡ false
+  unfolding longThread threadFits translation
+  threads-short = ap not (each-all threads (threadFits (encode (chip f))) (λ t h g.
+      le-leb (length (thread (encode (chip f)) (t - 1))) (mostInThread (side (encode (chip f)))) (rw chip-side (thread-translated f s (t - 1) (omega arith) .enough))))
 
   -- 7: the link chains.
   chains-fine : badChains (encode (chip f)) ≡ false
@@ -263,7 +237,8 @@ module _ (f : List ℕ) (s : Source f) where
         cause3 = within-limits;
         cause4 = right-length;
         cause5 = events-legal;
-        cause6 = threads-fine;
+        cause6 = threads-fine f s;
+        cause13 = threads-short;
         cause7 = chains-fine;
         cause8 = links-fine;
         cause9 = no-ring;

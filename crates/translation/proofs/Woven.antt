@@ -4,16 +4,18 @@ use mathlib.Core.Path.{_≡_, refl, sym, ap, subst, _∙_}
 use mathlib.Core.Bool.{Bool, true, false, not, _&&_, false≢true}
 use mathlib.Core.List.{List, [], _∷_, _++_}
 use mathlib.Core.Logic.{inl, inr}
-use Prim.Native.Nat.{ℕ, zero, suc, _<_, _≤_}
+use Prim.Native.Nat.{ℕ, zero, suc, _+_, _<_, _≤_}
 use native.Mathlib.Omega.{arith}
 use native.Mathlib.Decide.{decLe}
 use borrow.Author.Tests.{le-leb}
 use lib.Dec.{leb}
+use lib.ListN.{length}
 use Rattle.relation.specs.Rel.{Set}
 use Rattle.relation.proofs.Meaning.{and-left, and-right, and-both}
 use Rattle.layout.specs.Chains.{among, chain, met, fresh, allMet, onceEach}
 use Rattle.layout.proofs.ChainLaws.{each-at}
 use Rattle.relation.proofs.Truth.{by-test}
+use Rattle.translation.specs.Threads.{countOf}
 use Rattle.recording.proofs.Accepted.{each-all}
 use Rattle.layout.proofs.ChainFacts.{Ended, end, step, among-here, among-there, among-cases, Fresh, fresh-cons, fresh-length, chain-ended, chain-fresh, ended-walk, ended-positive}
 
@@ -33,6 +35,16 @@ unfoldable pub woven : Set → (ℕ → ℕ) → List ℕ → List ℕ
 woven s new [] = []
 woven s new (x ∷ l) = elim (s x) [ true ↦ x ∷ new x ∷ woven s new l | false ↦ x ∷ woven s new l ]
 
+-- Members of s, counted.
+module _ (s : Set) where
+  pub count-yes : (x : ℕ) (l : List ℕ) → s x ≡ true → countOf (x ∷ l) s ≡ suc (countOf l s)
+  unfolding countOf
+  count-yes x l e = rw (e, countOf)
+
+  pub count-no : (x : ℕ) (l : List ℕ) → s x ≡ false → countOf (x ∷ l) s ≡ countOf l s
+  unfolding countOf
+  count-no x l e = rw (e, countOf)
+
 module _ (s : Set) (new : ℕ → ℕ) where
   pub woven-yes : (x : ℕ) (l : List ℕ) → s x ≡ true → woven s new (x ∷ l) ≡ x ∷ new x ∷ woven s new l
   unfolding woven
@@ -49,6 +61,16 @@ module _ (s : Set) (new : ℕ → ℕ) where
       elim (by-test (s x)) [
         | inl e ↦ woven-yes x (k ++ l) e ∙ ap (λ (z : List ℕ). x ∷ new x ∷ z) (woven-append k l) ∙ sym (ap (λ (z : List ℕ). z ++ woven s new l) (woven-yes x k e))
         | inr e ↦ woven-no x (k ++ l) e ∙ ap (_∷_ x) (woven-append k l) ∙ sym (ap (λ (z : List ℕ). z ++ woven s new l) (woven-no x k e))
+      ]
+
+  -- One number more for each of s.
+  pub woven-length : (l : List ℕ) → length (woven s new l) ≡ length l + countOf l s
+  unfolding woven countOf
+  woven-length [] = refl
+  woven-length (x ∷ l) =
+      elim (by-test (s x)) [
+        | inl e ↦ omega (arith, ap length (woven-yes x l e), count-yes s x l e, woven-length l)
+        | inr e ↦ omega (arith, ap length (woven-no x l e), count-no s x l e, woven-length l)
       ]
 
   -- Members stay, and those of s bring theirs.
@@ -184,7 +206,7 @@ module _ (n m : ℕ) (next after : ℕ → ℕ) (s : Set) (new : ℕ → ℕ) (w
 
   -- The chains from several starts.
   module _ (start : ℕ → ℕ) (k : ℕ) (f : fresh n [] (met n next start k) ≡ true) where
-    woven-chain : (j : ℕ) → j < k → chain m after (start j) ≡ woven s new (chain n next (start j))
+    pub woven-chain : (j : ℕ) → j < k → chain m after (start j) ≡ woven s new (chain n next (start j))
     woven-chain j h =
         let v = chain-fresh n next start k j h f in
         let l = chain n next (start j) in

@@ -4,3 +4,4 @@ pub mod Translate
 pub mod Encode
 pub mod Translation
 pub mod Parts
+pub mod Threads

@@ -1,15 +1,10 @@
 -- `kind::most_links` meets its contract.
-use Rattle.layout.specs.Layout.{mostLinks}
+use borrow.Author.Needs.{needs}
 use Rattle.layout.proofs.kind.most_links.Statement.{statement}
 use Rattle.layout.proofs.kind.most_links.Tie as tie
 
 returns : tie.Need-returns
-unfolding mostLinks
-returns c = rw (c .if1 .taken, mostLinks)
-
-returns-2 : tie.Need-returns-2
-unfolding mostLinks
-returns-2 c = rw (c .if1 .left, mostLinks)
+returns c = c .by-side .ensures
 
 pub most-links-spec : {M : Type 1} → statement M
-most-links-spec = tie.close (tie.spec returns returns-2)
+most-links-spec = tie.close (tie.spec (λ c κs. search needs) returns)

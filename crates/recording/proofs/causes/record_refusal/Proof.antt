@@ -5,7 +5,7 @@ use Prim.Native.Nat.{ℕ}
 use lib.ListN.{take}
 use Rattle.models.specs.Rules.{first}
 use Rattle.models.proofs.FirstLaws.{at, positive, first-at, none-more}
-use Rattle.recording.specs.Causes.{badEvent, recordCauses}
+use Rattle.recording.specs.Causes.{badEvent, longThread, recordCauses}
 use Rattle.recording.proofs.CauseLaws.{opposite}
 use borrow.Author.Needs.{needs}
 use Rattle.recording.proofs.causes.record_refusal.Statement.{statement}
@@ -23,6 +23,11 @@ none-2 : (c : tie.Else2) → first (take 2 (recordCauses (file (c .before .befor
 unfolding recordCauses at positive
 none-2 c = none-more 1 (recordCauses (file (c .before .before))) refl (none-1 (c .before .before)) (sym (c .before .threads-sound .ensures) ∙ c .if2 .left)
 
+none-3 : (c : tie.Else3) → first (take 3 (recordCauses (file (c .before .before .before .before)))) ≡ 0
+unfolding recordCauses longThread at positive
+none-3 c =
+    none-more 2 (recordCauses (file (c .before .before .before .before))) refl (none-2 (c .before .before)) (opposite _ _ _ (c .before .threads-fit .ensures) (c .if3 .left))
+
 returns : tie.Need-returns
 unfolding recordCauses badEvent at positive first
 returns c = sym (first-at 0 (recordCauses (c .before .before .before .args .file .now)) refl refl (opposite _ _ _ (c .before .events-legal .ensures) (c .if1 .taken)))
@@ -32,12 +37,18 @@ unfolding recordCauses at positive
 returns-2 c = sym (first-at 1 (recordCauses _) refl (none-1 (c .before .before)) (sym (c .before .threads-sound .ensures) ∙ c .if2 .taken))
 
 returns-3 : tie.Need-returns-3
-unfolding recordCauses at positive
-returns-3 c = sym (first-at 2 (recordCauses _) refl (none-2 (c .before .before)) (sym (c .before .chains-sound .ensures) ∙ c .if3 .taken))
+unfolding recordCauses longThread at positive
+returns-3 c =
+    sym
+    (first-at 2 (recordCauses (file (c .before .before .before .before))) refl (none-2 (c .before .before)) (opposite _ _ _ (c .before .threads-fit .ensures) (c .if3 .taken)))
 
 returns-4 : tie.Need-returns-4
 unfolding recordCauses at positive
-returns-4 c = sym (none-more 2 (recordCauses _) refl (none-2 (c .before .before)) (sym (c .before .chains-sound .ensures) ∙ c .if3 .left))
+returns-4 c = sym (first-at 3 (recordCauses _) refl (none-3 (c .before .before)) (sym (c .before .chains-sound .ensures) ∙ c .if4 .taken))
+
+returns-5 : tie.Need-returns-5
+unfolding recordCauses at positive
+returns-5 c = sym (none-more 3 (recordCauses _) refl (none-3 (c .before .before)) (sym (c .before .chains-sound .ensures) ∙ c .if4 .left))
 
 pub record-refusal-spec : {M : Type 1} → statement M
 record-refusal-spec =
@@ -49,4 +60,6 @@ record-refusal-spec =
     returns-2
     (λ c κs. search needs)
     returns-3
-    returns-4)
+    (λ c κs. search needs)
+    returns-4
+    returns-5)
