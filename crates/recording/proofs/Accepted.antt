@@ -45,10 +45,7 @@ pub record Accepted (f : List ℕ) : Type 0 where
 
 pub accepts : (f : List ℕ) → Accepted f → refusal f ≡ 0
 unfolding refusal causes headerCauses recordCauses linkCauses NonePass
-accepts f a =
-    let links : NonePass (linkCauses f) = (a .cause8, (a .cause9, (a .cause10, tt))) in
-    none-first (causes f)
-    (a .cause1, (a .cause2, (a .cause3, (a .cause4, (a .cause5, (a .cause6, (a .cause13, (a .cause7, links))))))))
+accepts f a = none-first (causes f) (search tt)
 
 -- `each` and `allOf` at a number.
 pub each-all : (n : ℕ) (p : ℕ → Bool) → ((x : ℕ) → 1 ≤ x → x ≤ n → p x ≡ true) → each n p ≡ true
