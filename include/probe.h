@@ -29,7 +29,7 @@ typedef uint64_t probe_answer;
 #define PROBE_RULE(answer) ((unsigned)(((answer) >> 8) & 255u))
 #define PROBE_LENGTH(answer) ((size_t)((answer) >> 16))
 
-/* The causes of refusal, in the order in which they are tried. Of several that apply the smallest is answered. */
+/* The causes of refusal, in the order in which they are tried. Of several that apply the first in this order is answered. */
 enum {
     PROBE_SHORT = 1,        /* under 8 bytes */
     PROBE_KIND = 2,         /* kind not 1 or 2 */
@@ -37,6 +37,7 @@ enum {
     PROBE_FILE_LENGTH = 4,  /* length not 8 + 8 times the events + 4 times the links */
     PROBE_EVENT = 5,        /* class, mode, flag, location or a fence's value not as the layout has them */
     PROBE_THREADS = 6,      /* a thread chain leaves the records, or an event is met twice or never */
+    PROBE_LONG_THREAD = 13, /* a thread chain has over 12 events in a source file, over 18 in a chip file */
     PROBE_CHAINS = 7,       /* a link chain leaves the records, or a link is met twice or never */
     PROBE_LINK = 8,         /* link type not 1 to 7, its conditions broken, or its last byte not 0 */
     PROBE_CO_RING = 9,      /* co leads back to its start */
@@ -53,10 +54,10 @@ enum {
 /* A file that loads has at most so many bytes. */
 #define PROBE_MOST_FILE 1412u
 
-/* Does the file load? Refusals 1 to 10; writes nothing. */
+/* Does the file load? Refusals 1 to 10 and 13; writes nothing. */
 probe_answer probe_load(const uint8_t *file, size_t length);
 
-/* The verdict of IMM on a source file, and of ARMv8 on a chip file. Refusals 1 to 12.
+/* The verdict of IMM on a source file, and of ARMv8 on a chip file. Refusals 1 to 13.
  * Writes the numbers of the events that are shown, a byte each; an initial write of location l has the number 56 + l:
  *   allowed          all events, ordered by ar (IMM) or ob (ARMv8), always taking next the smallest number whose predecessors are out;
  *                    initial writes need not come first
@@ -69,7 +70,7 @@ probe_answer probe_load(const uint8_t *file, size_t length);
 probe_answer probe_imm(const uint8_t *file, size_t length, uint8_t *out, size_t room);
 probe_answer probe_armv8(const uint8_t *file, size_t length, uint8_t *out, size_t room);
 
-/* The translation of a source file to ARMv8 instructions, a chip file that loads. Refusals 1 to 12.
+/* The translation of a source file to ARMv8 instructions, a chip file that loads. Refusals 1 to 13.
  * A source file that probe_imm calls broken has a translation that probe_armv8 calls broken. */
 probe_answer probe_translate(const uint8_t *file, size_t length, uint8_t *out, size_t room);
 
