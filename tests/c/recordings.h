@@ -1,5 +1,6 @@
 /* Recordings written out by hand: header, event records, link records, a line each. The source files with what is expected of them,
- * then a file for each cause of refusal. The rings shown are the only ones of their length, and the library shows a shortest one. */
+ * then files for each cause of refusal, in the order of the causes. The rings shown are the only ones of their length, and the library
+ * shows a shortest one. */
 
 /* worked example */
 static const uint8_t worked[] = {
@@ -136,6 +137,75 @@ static const uint8_t strong_chip[] = {
     0, 6, 1, 0,
 };
 
+/* six strong pairs: the longest thread of a source file, which becomes the longest of a chip file */
+static const uint8_t six_pairs[] = {
+    1, 12, 6, 12, 0, 0, 1, 0,
+    2, 1, 0, 1, 0, 0, 0, 1,
+    3, 2, 0, 1, 0, 1, 0, 2,
+    4, 1, 0, 1, 1, 0, 0, 3,
+    5, 2, 0, 1, 1, 1, 0, 4,
+    6, 1, 0, 1, 2, 0, 0, 5,
+    7, 2, 0, 1, 2, 1, 0, 6,
+    8, 1, 0, 1, 3, 0, 0, 7,
+    9, 2, 0, 1, 3, 1, 0, 8,
+    10, 1, 0, 1, 4, 0, 0, 9,
+    11, 2, 0, 1, 4, 1, 0, 10,
+    12, 1, 0, 1, 5, 0, 0, 11,
+    0, 2, 0, 1, 5, 1, 0, 12,
+    0, 1, 56, 0,
+    0, 3, 1, 0,
+    0, 1, 57, 0,
+    0, 3, 3, 0,
+    0, 1, 58, 0,
+    0, 3, 5, 0,
+    0, 1, 59, 0,
+    0, 3, 7, 0,
+    0, 1, 60, 0,
+    0, 3, 9, 0,
+    0, 1, 61, 0,
+    0, 3, 11, 0,
+};
+
+static const uint8_t six_pairs_chip[] = {
+    2, 18, 6, 18, 0, 0, 1, 0,
+    2, 1, 0, 1, 0, 0, 0, 1,
+    13, 2, 0, 0, 0, 1, 0, 2,
+    4, 1, 0, 1, 1, 0, 0, 4,
+    14, 2, 0, 0, 1, 1, 0, 5,
+    6, 1, 0, 1, 2, 0, 0, 7,
+    15, 2, 0, 0, 2, 1, 0, 8,
+    8, 1, 0, 1, 3, 0, 0, 10,
+    16, 2, 0, 0, 3, 1, 0, 11,
+    10, 1, 0, 1, 4, 0, 0, 13,
+    17, 2, 0, 0, 4, 1, 0, 14,
+    12, 1, 0, 1, 5, 0, 0, 16,
+    18, 2, 0, 0, 5, 1, 0, 17,
+    3, 3, 5, 0, 0, 0, 0, 0,
+    5, 3, 5, 0, 0, 0, 0, 0,
+    7, 3, 5, 0, 0, 0, 0, 0,
+    9, 3, 5, 0, 0, 0, 0, 0,
+    11, 3, 5, 0, 0, 0, 0, 0,
+    0, 3, 5, 0, 0, 0, 0, 0,
+    0, 1, 56, 0,
+    3, 3, 1, 0,
+    0, 6, 1, 0,
+    0, 1, 57, 0,
+    6, 3, 3, 0,
+    0, 6, 3, 0,
+    0, 1, 58, 0,
+    9, 3, 5, 0,
+    0, 6, 5, 0,
+    0, 1, 59, 0,
+    12, 3, 7, 0,
+    0, 6, 7, 0,
+    0, 1, 60, 0,
+    15, 3, 9, 0,
+    0, 6, 9, 0,
+    0, 1, 61, 0,
+    18, 3, 11, 0,
+    0, 6, 11, 0,
+};
+
 /* empty recording */
 static const uint8_t empty[] = {
     1, 0, 0, 0, 0, 0, 0, 0,
@@ -175,6 +245,86 @@ static const uint8_t refused_5[] = {
 static const uint8_t refused_6[] = {
     1, 1, 1, 0, 0, 0, 0, 0,
     0, 1, 0, 0, 0, 0, 0, 0,
+};
+
+/* 13 events of a thread, and an event on no thread */
+static const uint8_t refused_6_not_13[] = {
+    1, 14, 0, 0, 1, 0, 0, 0,
+    2, 3, 1, 0, 0, 0, 0, 0,
+    3, 3, 1, 0, 0, 0, 0, 0,
+    4, 3, 1, 0, 0, 0, 0, 0,
+    5, 3, 1, 0, 0, 0, 0, 0,
+    6, 3, 1, 0, 0, 0, 0, 0,
+    7, 3, 1, 0, 0, 0, 0, 0,
+    8, 3, 1, 0, 0, 0, 0, 0,
+    9, 3, 1, 0, 0, 0, 0, 0,
+    10, 3, 1, 0, 0, 0, 0, 0,
+    11, 3, 1, 0, 0, 0, 0, 0,
+    12, 3, 1, 0, 0, 0, 0, 0,
+    13, 3, 1, 0, 0, 0, 0, 0,
+    0, 3, 1, 0, 0, 0, 0, 0,
+    0, 3, 1, 0, 0, 0, 0, 0,
+};
+
+/* 13 events of a thread in a source file */
+static const uint8_t refused_13[] = {
+    1, 13, 0, 0, 1, 0, 0, 0,
+    2, 3, 1, 0, 0, 0, 0, 0,
+    3, 3, 1, 0, 0, 0, 0, 0,
+    4, 3, 1, 0, 0, 0, 0, 0,
+    5, 3, 1, 0, 0, 0, 0, 0,
+    6, 3, 1, 0, 0, 0, 0, 0,
+    7, 3, 1, 0, 0, 0, 0, 0,
+    8, 3, 1, 0, 0, 0, 0, 0,
+    9, 3, 1, 0, 0, 0, 0, 0,
+    10, 3, 1, 0, 0, 0, 0, 0,
+    11, 3, 1, 0, 0, 0, 0, 0,
+    12, 3, 1, 0, 0, 0, 0, 0,
+    13, 3, 1, 0, 0, 0, 0, 0,
+    0, 3, 1, 0, 0, 0, 0, 0,
+};
+
+/* 19 events of a thread in a chip file */
+static const uint8_t refused_13_chip[] = {
+    2, 19, 0, 0, 0, 0, 0, 1,
+    2, 3, 5, 0, 0, 0, 0, 0,
+    3, 3, 5, 0, 0, 0, 0, 0,
+    4, 3, 5, 0, 0, 0, 0, 0,
+    5, 3, 5, 0, 0, 0, 0, 0,
+    6, 3, 5, 0, 0, 0, 0, 0,
+    7, 3, 5, 0, 0, 0, 0, 0,
+    8, 3, 5, 0, 0, 0, 0, 0,
+    9, 3, 5, 0, 0, 0, 0, 0,
+    10, 3, 5, 0, 0, 0, 0, 0,
+    11, 3, 5, 0, 0, 0, 0, 0,
+    12, 3, 5, 0, 0, 0, 0, 0,
+    13, 3, 5, 0, 0, 0, 0, 0,
+    14, 3, 5, 0, 0, 0, 0, 0,
+    15, 3, 5, 0, 0, 0, 0, 0,
+    16, 3, 5, 0, 0, 0, 0, 0,
+    17, 3, 5, 0, 0, 0, 0, 0,
+    18, 3, 5, 0, 0, 0, 0, 0,
+    19, 3, 5, 0, 0, 0, 0, 0,
+    0, 3, 5, 0, 0, 0, 0, 0,
+};
+
+/* 13 events of a thread, and a link into no event */
+static const uint8_t refused_13_not_7[] = {
+    1, 13, 1, 1, 0, 1, 0, 0,
+    2, 3, 1, 0, 0, 0, 0, 0,
+    3, 3, 1, 0, 0, 0, 0, 0,
+    4, 3, 1, 0, 0, 0, 0, 0,
+    5, 3, 1, 0, 0, 0, 0, 0,
+    6, 3, 1, 0, 0, 0, 0, 0,
+    7, 3, 1, 0, 0, 0, 0, 0,
+    8, 3, 1, 0, 0, 0, 0, 0,
+    9, 3, 1, 0, 0, 0, 0, 0,
+    10, 3, 1, 0, 0, 0, 0, 0,
+    11, 3, 1, 0, 0, 0, 0, 0,
+    12, 3, 1, 0, 0, 0, 0, 0,
+    13, 3, 1, 0, 0, 0, 0, 0,
+    0, 3, 1, 0, 0, 0, 0, 0,
+    0, 1, 56, 0,
 };
 
 /* link into no event */
@@ -235,6 +385,10 @@ static const struct source sources[] = {
      SIZED(strong_chip), 0, 4, EVENTS(1, 2, 3, 56),
      "source allowed 1 2 56\n"
      "chip allowed 1 2 3 56\n"},
+    {"six strong pairs", SIZED(six_pairs), 0, 18, EVENTS(1, 2, 3, 4, 5, 6, 7, 8, 9, 10, 11, 12, 56, 57, 58, 59, 60, 61),
+     SIZED(six_pairs_chip), 0, 24, EVENTS(1, 2, 3, 4, 5, 6, 7, 8, 9, 10, 11, 12, 13, 14, 15, 16, 17, 18, 56, 57, 58, 59, 60, 61),
+     "source allowed 1 2 3 4 5 6 7 8 9 10 11 12 56 57 58 59 60 61\n"
+     "chip allowed 1 2 3 4 5 6 7 8 9 10 11 12 13 14 15 16 17 18 56 57 58 59 60 61\n"},
     {"empty recording", SIZED(empty), 0, 0, NULL,
      SIZED(empty_chip), 0, 0, NULL,
      "source allowed\n"
@@ -253,6 +407,10 @@ static const struct {
     {"no record of the one event", SIZED(refused_4), 4},
     {"class 0", SIZED(refused_5), 5},
     {"event on no thread", SIZED(refused_6), 6},
+    {"13 events of a thread, and an event on no thread", SIZED(refused_6_not_13), 6},
+    {"13 events of a thread in a source file", SIZED(refused_13), 13},
+    {"19 events of a thread in a chip file", SIZED(refused_13_chip), 13},
+    {"13 events of a thread, and a link into no event", SIZED(refused_13_not_7), 13},
     {"link into no event", SIZED(refused_7), 7},
     {"link of type 8", SIZED(refused_8), 8},
     {"two writes each co-before the other", SIZED(refused_9), 9},
