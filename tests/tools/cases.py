@@ -47,6 +47,17 @@ LINK_TYPES = [
     "data: a read -> a write later in its thread", "addr: a read -> a read or write later in its thread",
     "ctrl: a read -> an event later in its thread", "casdep: a read -> an exclusive read later in its thread; in a source recording only",
 ]
+
+
+def fences(kind, *threads):
+    """A text with so many fences in each thread."""
+    name, lines = {"source": "fence sc", "chip": "dmb ld"}[kind], [kind]
+    for k, size in enumerate(threads, 1):
+        number = len(lines) - k  # the events above
+        lines += [f"thread {k}", *(f"{number + n}: {name}" for n in range(1, size + 1))]
+    return "\n".join(lines) + "\n"
+
+
 ONE = "source locations x y\nthread 1\n1: write relaxed x = 1\n"  # three lines of a good text
 WRONG = [  # a text, the line that is wrong, what is said
     ("", 1, "an empty text"), ("# nothing\n\n", 1, "an empty text"), ("thread 1\nsource\n", 1, FIRST), ("sauce\n", 1, FORM.format("sauce")),
@@ -76,8 +87,9 @@ WRONG = [  # a text, the line that is wrong, what is said
     (ONE + "co init x -> 1\nchain 1: 2\n", 5, "the links into event 1 are 1"), (ONE + "chain 1: 1\n", 4, "the links into event 1 are none"),
     (ONE + "chain 9: 1\n", 4, "there is no event 9; events are 1 to 1"),
     (ONE + "co 56 -> 1\nco 56 -> 1\nchain 1: 2 1\nchain 1: 1 2\n", 7, "event 1 is chained above"),
-    ("source\nthread 1\n" + "".join(f"{n}: fence sc\n" for n in range(1, 34)), 35, "more than 32 events"),
-    ("chip\nthread 1\n" + "".join(f"{n}: dmb ld\n" for n in range(1, 50)), 51, "more than 48 events"),
+    (fences("source", 12, 12, 8, 1), 38, "more than 32 events"), (fences("chip", 18, 18, 12, 1), 54, "more than 48 events"),
+    (fences("source", 13), 15, "more than 12 events in this thread"), (fences("source", 1, 12, 14), 30, "more than 12 events in this thread"),
+    (fences("chip", 19), 21, "more than 18 events in this thread"), (fences("chip", 18, 2, 19, 1), 43, "more than 18 events in this thread"),
     (ONE + "co init x -> 1\n" * 201, 204, "more than 200 links"),
     ("chip locations x\nthread 1\n1: str x = 1\n" + "co init x -> 1\n" * 256, 259, "more than 255 links"),
 ]
@@ -88,7 +100,7 @@ EVENTS = ("source locations x y\nthread 1\n1: write relaxed x = 1\n2: read relax
           "5: fence sc\n6: read relaxed exclusive y = 0\n7: write relaxed y = 1\nthread 2\n8: read relaxed y = 1\n9: write relaxed y = 1\n")
 CHIP = "chip locations x\nthread 1\n1: ldr x = 0\n2: ldr exclusive x = 0\n"
 STRONG = "source locations x\nthread 1\n1: write release strong x = 1\n"
-REASONS = [  # a text, the reason why its recording is refused
+REASONS = [  # a text, the reason why its recording is refused, or that it loads
     *((EVENTS + f"{link}\n", f"link 1 ({link}): {reason} (refusal 8)") for link, reason in [
         ("rf 3 -> 2", "rf starts at a write, and event 3 is a read"), ("rf 5 -> 2", "rf starts at a write, and event 5 is a fence"),
         ("rf 1 -> 4", "rf ends in a read, and event 4 is a write"), ("rf init x -> 5", "rf ends in a read, and event 5 is a fence"),
@@ -124,7 +136,17 @@ REASONS = [  # a text, the reason why its recording is refused
     (STRONG, "event 1: strong write without rmw (refusal 10)"),
     (STRONG + "2: read relaxed exclusive x = 1\n3: write relaxed strong x = 2\n4: write relaxed strong x = 3\nrmw 2 -> 3\nrf 1 -> 2\nco 1 -> 3\n",
      "event 1: strong write without rmw (refusal 10)"),
+    *((fences(kind, *sizes), "loads") for kind, *sizes in [("source", 12), ("source", 12, 0, 8, 12), ("chip", 18), ("chip", 18, 0, 12, 18)]),
 ]
+
+
+def chained(size, mode):
+    """The records of events 1 to size, fences on one chain."""
+    return "".join(f"    {n + 1 if n < size else 0:02x} 03 {mode:02x} 00 00 00 00 00" for n in range(1, size + 1))
+
+
+LONG = "thread {}: {} events, a thread of a {} recording has at most {} (refusal 13)"
+ALONE = "    00 03 04 00 00 00 00 00"  # an event more, a fence
 HEAD = "01 01 01 01 01 00 00 00    00 01 00 00 00 00 00 01"  # the header and the one event, a read, of a file with one link
 BYTES = [  # a file, the reason why it is refused
     ("01", "1 bytes, a header has 8 (refusal 1)"), ("03" + " 00" * 7, "kind 3 is neither 1, source, nor 2, chip (refusal 2)"),
@@ -138,6 +160,13 @@ BYTES = [  # a file, the reason why it is refused
     ("01 01 01 00 02 00 00 00    00 01 00 00 00 00 00 00", "a chain leads to event 2, but there are 1 (refusal 6)"),
     ("01 01 01 00 01 01 00 00    00 01 00 00 00 00 00 00", "event 1 is chained twice (refusal 6)"),
     ("01 01 01 00 00 00 00 00    00 01 00 00 00 00 00 00", "event 1 is in no chain (refusal 6)"),
+    ("01 0d 00 00 01 00 00 00" + chained(13, 4), LONG.format(1, 13, "source", 12)),
+    ("02 13 00 00 00 00 00 01" + chained(19, 5), LONG.format(4, 19, "chip", 18)),
+    ("01 0f 00 00 0f 01 00 00" + chained(14, 4) + ALONE, LONG.format(2, 14, "source", 12)),
+    ("01 0e 00 00 01 00 00 00" + chained(13, 4) + ALONE, "event 14 is in no chain (refusal 6)"),
+    ("02 13 00 00 01 00 01 00" + chained(19, 5), "event 1 is chained twice (refusal 6)"),
+    ("01 0d 01 01 01 00 00 00" + chained(13, 4) + "    00 01 38 00", LONG.format(1, 13, "source", 12)),  # and link 1 is in no chain
+    ("02 13 01 01 00 01 00 00" + chained(19, 6)[:-2] + "02    00 01 38 00", LONG.format(2, 19, "chip", 18)),  # and a chain leads to link 2
     (HEAD + " 02 01 38 00", "a chain leads to link 2, but there are 1 (refusal 7)"), (HEAD + " 01 01 38 00", "link 1 is chained twice (refusal 7)"),
     (HEAD[:-2] + "00 00 01 38 00", "link 1 is in no chain (refusal 7)"),
     (HEAD + " 00 08 38 00", "link 1 (type 8 56 -> 1): there is no type 8, types are 1 to 7 (refusal 8)"),
