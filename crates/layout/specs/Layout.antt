@@ -44,7 +44,7 @@ sideOf k = eqb k 1
 abbrev pub side : List ℕ → Side
 side f = sideOf (kind f)
 
--- The limits, of source and of chip: event records, locations, link records, and events of one thread (02, request 1).
+-- The limits, of source and of chip: event records, locations, link records, and events of one thread (02, slip 1).
 unfoldable pub bySide : ℕ → ℕ → Side → ℕ
 bySide a b s = elim s [ true ↦ a | false ↦ b ]
 

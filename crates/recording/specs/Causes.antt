@@ -1,4 +1,4 @@
--- The causes of refusal 1 to 10 (01, "Causes of refusal, in order") and 13 (02, request 1): each is one definition, and `refusal` is the first that
+-- The causes of refusal 1 to 10 (01, "Causes of refusal, in order") and 13 (02, slip 1): each is one definition, and `refusal` is the first that
 -- applies.
 use mathlib.Core.Bool.{Bool, true, false, _&&_, _||_, not}
 use mathlib.Core.List.{List, [], _∷_, _++_}

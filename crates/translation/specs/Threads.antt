@@ -1,4 +1,4 @@
--- Threads and their translation (02, request 1): "Eighteen is enough, since a thread of 12 has at most six strong writes."
+-- Threads and their translation (02, slip 1): "Eighteen is enough, since a thread of 12 has at most six strong writes."
 -- `proofs/Theorems.antt` proves it of every thread of a source file that loads.
 use mathlib.Core.Path.{_≡_}
 use mathlib.Core.Bool.{true, false}
