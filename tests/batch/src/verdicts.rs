@@ -33,7 +33,7 @@ pub fn lines(file: &[u8]) -> String {
     match (imm.refusal, armv8.refusal) {
         (0, 11) => source_lines(file, &imm),
         (11, 0) => line("chip", &armv8),
-        (cause, same) if cause == same && cause <= 10 => format!("refused {cause};"),
+        (cause @ (1..=10 | 13), same) if cause == same => format!("refused {cause};"),
         (cause, other) => format!("refused {cause} and {other}"),
     }
 }

@@ -4,6 +4,7 @@
 use crate::boundary_events;
 use crate::boundary_links;
 use crate::boundary_several;
+use crate::boundary_threads;
 use crate::handmade::*;
 
 pub fn cases() -> Vec<Case> {
@@ -13,7 +14,9 @@ pub fn cases() -> Vec<Case> {
     limits(&mut cases);
     lengths(&mut cases);
     meetings(&mut cases);
+    long_meetings(&mut cases);
     boundary_events::add(&mut cases);
+    boundary_threads::add(&mut cases);
     boundary_links::add(&mut cases);
     boundary_several::add(&mut cases);
     cases.0
@@ -41,15 +44,12 @@ fn kinds(cases: &mut Cases) {
     }
 }
 
-/// `n` relaxed writes of location 0 in thread 1, in order of number, without their first links.
-fn writes(n: u8) -> Vec<EventBytes> {
-    (1..=n).map(|e| [if e == n { 0 } else { e + 1 }, 2, 0, 0, 0, e, 0]).collect()
-}
-
-/// A file of `n` writes in one thread and `m` times the same co link, from write 1 to write 2.
+/// A file of `n` relaxed writes of location 0 in as few threads as may be,
+/// and `m` times the same co link, from write 1 to write 2.
 fn filled(kind: u8, n: u8, m: u8) -> Vec<u8> {
-    let head = if n == 0 { 0 } else { 1 };
-    file(kind, 1, [head, 0, 0, 0], &writes(n), &vec![(2, 1, 2); m as usize])
+    let (heads, nexts) = chained(&numbered(packed(kind, n)));
+    let writes: Vec<EventBytes> = (1..=n).zip(nexts).map(|(e, next)| [next, 2, 0, 0, 0, e, 0]).collect();
+    file(kind, 1, heads, &writes, &vec![(2, 1, 2); m as usize])
 }
 
 /// Cause 3: N, L and M at their limits and over.
@@ -150,8 +150,9 @@ fn roomy() -> Vec<u8> {
     )
 }
 
-/// Gives the roomy file the fault of one cause. No two of these edits touch the same byte.
+/// Gives the roomy file, or a long one, the fault of one cause. No two of these edits touch the same byte.
 fn with_cause(file: &[u8], cause: u8) -> Vec<u8> {
+    let n = file[COUNT_EVENTS] as usize;
     match cause {
         1 => file[..7].to_vec(),
         2 => set(file, &[(KIND, 3)]),
@@ -162,18 +163,20 @@ fn with_cause(file: &[u8], cause: u8) -> Vec<u8> {
         // The third head meets event 1 a second time.
         6 => set(file, &[(HEAD_1 + 2, 1)]),
         // Link 3 leads on to a link over M.
-        7 => set(file, &[(in_link(4, 3, LINK_NEXT), 5)]),
+        7 => set(file, &[(in_link(n, 3, LINK_NEXT), 5)]),
         // The last byte of link 2 is not 0.
-        8 => set(file, &[(in_link(4, 2, LINK_LAST), 1)]),
+        8 => set(file, &[(in_link(n, 2, LINK_LAST), 1)]),
         // co 2 to 1 against co 1 to 2.
-        9 => set(file, &[(in_link(4, 1, LINK_SOURCE), 2)]),
+        9 => set(file, &[(in_link(n, 1, LINK_SOURCE), 2)]),
         // data 3 to 4 instead of rmw.
-        10 => set(file, &[(in_link(4, 4, LINK_TYPE), 4)]),
+        10 => set(file, &[(in_link(n, 4, LINK_TYPE), 4)]),
+        // Of the long file: thread 2 leads on into thread 4.
+        13 => set(file, &[(in_event(4, NEXT), 5), (HEAD_1 + 3, 0)]),
         _ => unreachable!(),
     }
 }
 
-/// Every cause alone, every two that can meet in one file, and all at once: the lowest number wins.
+/// Every cause alone, every two that can meet in one file, and all at once: of these ten the lowest number wins.
 /// A file under 8 bytes has no records, so cause 1 meets only 2 and 3, and 4 always.
 fn meetings(cases: &mut Cases) {
     cases.add("the file with room for every fault", roomy(), 0);
@@ -204,4 +207,40 @@ fn meetings(cases: &mut Cases) {
     }
     // The heads of a file whose length is wrong are not judged.
     cases.add("a head over N and a byte missing", set(&filled(1, 3, 2), &[(HEAD_1, 9)])[..39].to_vec(), 4);
+}
+
+/// The order in which the causes are tried.
+const ORDER: [u8; 11] = [1, 2, 3, 4, 5, 6, 13, 7, 8, 9, 10];
+
+/// The roomy file with writes of x in thread 4, one fewer than a thread may have. In a chip file event 4 is not strong.
+fn long(kind: u8) -> Vec<u8> {
+    let mut file = roomy();
+    let last = 4 + thread_limit(kind) - 1;
+    let writes = (5..=last).flat_map(|e| [if e == last { 0 } else { e + 1 }, 2, 0, 0, 0, e, 0, 0]);
+    file.splice(in_event(5, 0)..in_event(5, 0), writes);
+    let strong = (kind == 1) as u8;
+    set(&file, &[(KIND, kind), (COUNT_EVENTS, last), (HEAD_1 + 3, 5), (in_event(4, FLAG), strong)])
+}
+
+/// Cause 13 alone, with each other cause, and with all that come after one: the first in the order wins.
+/// A chip file has no cause 10; a file that is cut to cause 1 has lost its threads.
+fn long_meetings(cases: &mut Cases) {
+    for kind in [1, 2] {
+        let order = if kind == 1 { &ORDER[..] } else { &ORDER[..10] };
+        let place = |cause: u8| order.iter().position(|&c| c == cause);
+        cases.add(format!("kind {kind}, the long file with room for every fault"), long(kind), 0);
+        for &cause in order {
+            let alone = with_cause(&long(kind), cause);
+            cases.add(format!("kind {kind}, cause {cause} alone in the long file"), alone, cause);
+            if cause != 13 {
+                let both = with_cause(&with_cause(&long(kind), 13), cause);
+                let first = if place(cause) < place(13) { cause } else { 13 };
+                cases.add(format!("kind {kind}, causes {cause} and 13"), both, first);
+            }
+        }
+        for from in 1..order.len() {
+            let all = order[from..].iter().rev().fold(long(kind), |f, &cause| with_cause(&f, cause));
+            cases.add(format!("kind {kind}, cause {} and all that are tried after it", order[from]), all, order[from]);
+        }
+    }
 }

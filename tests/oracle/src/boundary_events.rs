@@ -121,7 +121,7 @@ fn two_events(cases: &mut Cases) {
 }
 
 /// A file of relaxed writes of location 0 with the given heads and next fields.
-fn chained(kind: u8, heads: [u8; 4], nexts: &[u8]) -> Vec<u8> {
+pub fn writes(kind: u8, heads: [u8; 4], nexts: &[u8]) -> Vec<u8> {
     let events: Vec<EventBytes> = nexts.iter().map(|&next| [next, 2, 0, 0, 0, 1, 0]).collect();
     file(kind, 1, heads, &events, &[])
 }
@@ -177,22 +177,26 @@ fn chains(cases: &mut Cases) {
             ("an event on no chain leads into one", [1, 0, 0, 0], &[0, 1], 6),
         ];
         for (name, heads, nexts, expected) in table {
-            cases.add(format!("kind {kind}: {name}"), chained(kind, heads, nexts), expected);
+            cases.add(format!("kind {kind}: {name}"), writes(kind, heads, nexts), expected);
         }
         // At the limit of N the largest number is legal, the next one is not.
         let most: u8 = if kind == 1 { 32 } else { 48 };
-        let full: Vec<u8> = (1..=most).map(|e| if e == most { 0 } else { e + 1 }).collect();
-        cases.add(format!("kind {kind}: all {most} in one thread"), chained(kind, [0, 1, 0, 0], &full), 0);
-        let backward: Vec<u8> = (1..=most).map(|e| e - 1).collect();
-        cases.add(format!("kind {kind}: all {most} backward"), chained(kind, [0, 0, most, 0], &backward), 0);
-        let mut over = full.clone();
-        over[most as usize - 1] = most + 1;
-        cases.add(format!("kind {kind}: {most} leads to {}", most + 1), chained(kind, [1, 0, 0, 0], &over), 6);
-        let mut round = full.clone();
-        round[most as usize - 1] = 1;
-        cases.add(format!("kind {kind}: {most} leads back to 1"), chained(kind, [1, 0, 0, 0], &round), 6);
+        let threads = numbered(packed(kind, most));
+        let (heads, full) = chained(&threads);
+        cases.add(format!("kind {kind}: all {most} in full threads"), writes(kind, heads, &full), 0);
+        let (last_heads, backward) = chained(&threads.map(|thread| thread.into_iter().rev().collect()));
+        cases.add(format!("kind {kind}: all {most} in full threads, backward"), writes(kind, last_heads, &backward), 0);
+        for (next, name) in [
+            (most + 1, "to the number after it"),
+            (1, "back to 1"),
+            (heads[2], "back to the start of its thread"),
+        ] {
+            let mut changed = full.clone();
+            changed[most as usize - 1] = next;
+            cases.add(format!("kind {kind}: {most} leads {name}"), writes(kind, heads, &changed), 6);
+        }
         let mut skipping = full;
         skipping[0] = 3;
-        cases.add(format!("kind {kind}: 2 of {most} skipped"), chained(kind, [1, 0, 0, 0], &skipping), 6);
+        cases.add(format!("kind {kind}: 2 of {most} skipped"), writes(kind, heads, &skipping), 6);
     }
 }

@@ -1,7 +1,7 @@
-//! Files for comparison: recordings that load, translations of such, and damaged ones.
+//! Files for comparison: recordings that load, translations of such, ones with a thread too long, and damaged ones.
 
 use crate::draft::Draft;
-use crate::generate::{draft, draft_of_kind};
+use crate::generate::{any_kind, draft, draft_of_kind, too_long};
 use crate::random::Random;
 use crate::recording::*;
 use crate::translation::translate;
@@ -9,25 +9,36 @@ use crate::translation::translate;
 /// One file: in three of four cases one that loads.
 pub fn any_file(random: &mut Random) -> Vec<u8> {
     match random.below(100) {
-        0..=68 => draft(random).to_bytes(random),
+        0..=66 => draft(random).to_bytes(random),
+        67..=68 => long_draft(random).to_bytes(random),
         69..=74 => {
             // A translation, itself a chip file.
             let source = draft_of_kind(random, SOURCE).to_bytes(random);
             translate(&source).expect("a generated source recording loads")
         }
         75..=86 => {
-            let mut damaged = draft(random);
+            let mut damaged = draft_to_damage(random);
             for _ in 0..random.between(1, 2) {
                 damage_draft(random, &mut damaged);
             }
             damaged.to_bytes(random)
         }
         87..=97 => {
-            let good = draft(random).to_bytes(random);
+            let good = draft_to_damage(random).to_bytes(random);
             damage_bytes(random, good)
         }
         _ => random_bytes(random),
     }
+}
+
+fn long_draft(random: &mut Random) -> Draft {
+    let kind = any_kind(random);
+    too_long(random, kind)
+}
+
+/// Mostly a recording that loads; at times one with a thread too long, so that this meets the damage.
+fn draft_to_damage(random: &mut Random) -> Draft {
+    if random.chance(12) { long_draft(random) } else { draft(random) }
 }
 
 /// Breaks, or at times only changes, something that needs more than one byte.
@@ -102,7 +113,7 @@ fn damage_draft(random: &mut Random, draft: &mut Draft) {
 }
 
 /// Makes a source draft a chip draft or the other way, fences and strong writes with it.
-/// What may then stand against loading: N or M over the limit, or casdep.
+/// What may then stand against loading: N, M or a thread over the limit, or casdep.
 fn other_kind(draft: &mut Draft) {
     draft.kind = if draft.kind == SOURCE { CHIP } else { SOURCE };
     for e in &mut draft.events {

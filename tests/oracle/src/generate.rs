@@ -1,4 +1,5 @@
-//! Random recordings that load: small dense ones mostly, some up to the limits of N and M.
+//! Random recordings that load: small dense ones mostly, some up to the limits of N, M and a thread.
+//! And recordings with a thread over its limit.
 
 use crate::draft::{Draft, DraftEvent};
 use crate::generate_links::{co_of, dependencies, repeats, rf_of, values};
@@ -19,14 +20,23 @@ pub struct Theme {
     pub dependencies: usize,
 }
 
-const THEMES: [Theme; 6] = [
+const THEMES: [Theme; 7] = [
     Theme { fences: 12, pairs: 15, exclusive: 10, acquire: 40, release: 40, strong: 40, dependencies: 15 },
     Theme { fences: 5, pairs: 60, exclusive: 15, acquire: 30, release: 30, strong: 40, dependencies: 10 },
     Theme { fences: 35, pairs: 8, exclusive: 5, acquire: 25, release: 25, strong: 30, dependencies: 10 },
     Theme { fences: 4, pairs: 8, exclusive: 8, acquire: 10, release: 10, strong: 50, dependencies: 60 },
     Theme { fences: 3, pairs: 5, exclusive: 3, acquire: 5, release: 5, strong: 30, dependencies: 5 },
     Theme { fences: 20, pairs: 30, exclusive: 20, acquire: 60, release: 60, strong: 60, dependencies: 40 },
+    // Pairs throughout, all strong.
+    Theme { fences: 0, pairs: 100, exclusive: 10, acquire: 30, release: 30, strong: 100, dependencies: 10 },
 ];
+
+/// How many events and locations there are, and how many events a thread may have.
+struct Size {
+    events: usize,
+    locations: usize,
+    thread: usize,
+}
 
 /// How rf and co are drawn.
 #[derive(Clone, Copy, PartialEq)]
@@ -43,8 +53,12 @@ enum Policy {
 
 /// A recording of either kind, as a draft.
 pub fn draft(random: &mut Random) -> Draft {
-    let kind = if random.chance(60) { SOURCE } else { CHIP };
+    let kind = any_kind(random);
     draft_of_kind(random, kind)
+}
+
+pub fn any_kind(random: &mut Random) -> u8 {
+    if random.chance(60) { SOURCE } else { CHIP }
 }
 
 pub fn draft_of_kind(random: &mut Random, kind: u8) -> Draft {
@@ -52,15 +66,37 @@ pub fn draft_of_kind(random: &mut Random, kind: u8) -> Draft {
     let mut draft = match random.below(100) {
         0..=33 => ring_shaped(random, kind, theme),
         34..=51 => sync_shaped(random, kind, theme),
-        _ => interleaved(random, kind, theme),
+        _ => {
+            let size = size_that_loads(random, kind);
+            interleaved(random, kind, theme, size)
+        }
     };
     repeats(random, &mut draft);
     draft
 }
 
-/// Threads drawn at random, then rf and co by a policy.
-fn interleaved(random: &mut Random, kind: u8, theme: &Theme) -> Draft {
-    let most = if kind == SOURCE { 32 } else { 48 };
+/// A recording whose only fault is a thread over its limit: by one event, by some, or with all events in one thread.
+pub fn too_long(random: &mut Random, kind: u8) -> Draft {
+    let theme = &THEMES[random.below(THEMES.len())];
+    let limit = most_in_thread(kind);
+    loop {
+        let events = random.between(limit + 1, most_events(kind));
+        let some = random.between(limit + 1, events);
+        let size = Size { events, locations: random.between(1, 8), thread: random.pick(&[limit + 1, some, events]) };
+        let mut draft = interleaved(random, kind, theme, size);
+        if draft.threads.iter().any(|thread| thread.len() > limit) {
+            repeats(random, &mut draft);
+            return draft;
+        }
+    }
+}
+
+fn most_events(kind: u8) -> usize {
+    if kind == SOURCE { 32 } else { 48 }
+}
+
+fn size_that_loads(random: &mut Random, kind: u8) -> Size {
+    let most = most_events(kind);
     let (events, locations) = match random.below(100) {
         0..=1 => (random.between(0, 1), random.between(0, 2)),
         2..=24 => (random.between(2, 6), random.between(1, 2)),
@@ -69,7 +105,13 @@ fn interleaved(random: &mut Random, kind: u8, theme: &Theme) -> Draft {
         90..=96 => (random.between(16, most), random.between(1, 8)),
         _ => (most, random.between(1, 8)),
     };
-    let mut draft = skeleton(random, kind, locations as u8, events, theme);
+    Size { events, locations, thread: most_in_thread(kind) }
+}
+
+/// Threads drawn at random, then rf and co by a policy.
+fn interleaved(random: &mut Random, kind: u8, theme: &Theme, size: Size) -> Draft {
+    let events = size.events;
+    let mut draft = skeleton(random, kind, theme, size);
     let policy = match random.below(100) {
         0..=7 => Policy::Sequential,
         8..=19 => Policy::NearlySequential,
@@ -104,26 +146,23 @@ fn interleaved(random: &mut Random, kind: u8, theme: &Theme) -> Draft {
 }
 
 /// The events and threads, and the rmw links of the pairs.
-fn skeleton(random: &mut Random, kind: u8, locations: u8, count: usize, theme: &Theme) -> Draft {
-    let mut numbers: Vec<u8> = (1..=count as u8).collect();
+fn skeleton(random: &mut Random, kind: u8, theme: &Theme, size: Size) -> Draft {
+    let mut numbers: Vec<u8> = (1..=size.events as u8).collect();
     if random.chance(60) {
         random.shuffle(&mut numbers);
     }
-    // Some threads are left empty.
-    let mut used = vec![0, 1, 2, 3];
-    random.shuffle(&mut used);
-    used.truncate(random.pick(&[1, 2, 2, 2, 2, 3, 3, 3, 4, 4]));
+    let mut filling = Filling::new(random, size.thread);
+    let locations = size.locations as u8;
     let blank = DraftEvent { class: FENCE, mode: 0, flag: 0, location: 0, value: 0 };
     let mut draft = Draft::empty(kind);
     draft.locations = locations;
-    draft.events = vec![blank; count];
+    draft.events = vec![blank; size.events];
     let mut left = numbers;
     while let Some(number) = left.pop() {
-        let thread = random.pick(&used);
         let location = if locations == 0 { 0 } else { random.below(locations as usize) as u8 };
         if locations == 0 || random.chance(theme.fences) {
             draft.event_mut(number).mode = fence_mode(random, kind);
-            draft.threads[thread].push(number);
+            filling.put(random, &mut draft, &[number]);
             continue;
         }
         let reads = DraftEvent { class: READ, mode: mode_of(random, READ, theme), flag: 0, location, value: 0 };
@@ -132,7 +171,7 @@ fn skeleton(random: &mut Random, kind: u8, locations: u8, count: usize, theme: &
             let write = left.pop().unwrap();
             *draft.event_mut(number) = DraftEvent { flag: 1, ..reads };
             *draft.event_mut(write) = writes;
-            draft.threads[thread].extend([number, write]);
+            filling.put(random, &mut draft, &[number, write]);
             // Seldom the exclusive read and the write behind it are no pair.
             if random.chance(93) {
                 draft.add_link(RMW, number, write);
@@ -142,10 +181,39 @@ fn skeleton(random: &mut Random, kind: u8, locations: u8, count: usize, theme: &
             let read = random.chance(50);
             *draft.event_mut(number) = if read { reads } else { writes };
             draft.event_mut(number).flag = (read && random.chance(theme.exclusive)) as u8;
-            draft.threads[thread].push(number);
+            filling.put(random, &mut draft, &[number]);
         }
     }
     draft
+}
+
+/// The threads of a draft as they fill up. Some are left empty while the others have room.
+struct Filling {
+    order: [usize; 4],
+    /// So many of the order are used.
+    used: usize,
+    /// The most events of a thread.
+    most: usize,
+}
+
+impl Filling {
+    fn new(random: &mut Random, most: usize) -> Filling {
+        let mut order = [0, 1, 2, 3];
+        random.shuffle(&mut order);
+        Filling { order, used: random.pick(&[1, 2, 2, 2, 2, 3, 3, 3, 4, 4]), most }
+    }
+
+    /// Puts events that stand together behind a used thread that has room for them all.
+    /// Where none has, one more thread is used.
+    fn put(&mut self, random: &mut Random, draft: &mut Draft, events: &[u8]) {
+        let has_room = |thread: &usize| draft.threads[*thread].len() + events.len() <= self.most;
+        let mut open: Vec<usize> = self.order[..self.used].iter().copied().filter(has_room).collect();
+        if open.is_empty() {
+            open.push(self.order[self.used]);
+            self.used += 1;
+        }
+        draft.threads[random.pick(&open)].extend(events);
+    }
 }
 
 pub fn fence_mode(random: &mut Random, kind: u8) -> u8 {

@@ -86,9 +86,11 @@ pub fn ring_shaped(random: &mut Random, kind: u8, theme: &Theme) -> Draft {
             // A pair in some thread that reads from the last write and is read in its place.
             let location = ring.draft.event(last).location;
             let at = if random.chance(25) { thread } else { random.below(4) };
-            let (read, write) = ring.pair(random, at, location, theme);
-            ring.place_beside(write, last, true);
-            ring.place_beside(read, last, true);
+            if ring.room(at) >= 2 {
+                let (read, write) = ring.pair(random, at, location, theme);
+                ring.place_beside(write, last, true);
+                ring.place_beside(read, last, true);
+            }
         }
     }
     ring.finish(random, theme)

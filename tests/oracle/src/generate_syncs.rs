@@ -63,8 +63,9 @@ pub fn sync_shaped(random: &mut Random, kind: u8, theme: &Theme) -> Draft {
 }
 
 /// At times another relaxed write of the flag in the same thread.
+/// Room is kept for the last four: a read, a fence and two accesses of the data.
 fn another_write(random: &mut Random, sync: &mut Shaped, thread: usize, flag: u8) {
-    if random.chance(30) {
+    if random.chance(30) && sync.room(thread) > 4 {
         let again = sync.event(thread, WRITE, 0, 0, flag);
         sync.orders[flag as usize].push(again);
     }

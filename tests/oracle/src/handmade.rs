@@ -32,6 +32,38 @@ pub fn file(kind: u8, locations: u8, heads: [u8; 4], events: &[EventBytes], link
     all
 }
 
+/// The most events of a thread, by hand: the loader has its own.
+pub fn thread_limit(kind: u8) -> u8 {
+    if kind == 1 { 12 } else { 18 }
+}
+
+/// The lengths of as few threads as hold `n` events: all but the last at the limit.
+/// What four cannot hold is in the fourth.
+pub fn packed(kind: u8, n: u8) -> [u8; 4] {
+    let before = |threads: u8| (threads as u16 * thread_limit(kind) as u16).min(n as u16) as u8;
+    [before(1), before(2) - before(1), before(3) - before(2), n - before(3)]
+}
+
+/// Threads of the given lengths, their events numbered through.
+pub fn numbered(lengths: [u8; 4]) -> [Vec<u8>; 4] {
+    let mut last = 0;
+    lengths.map(|length| {
+        let first = last + 1;
+        last += length;
+        (first..=last).collect()
+    })
+}
+
+/// The heads of four threads that list all events of a file, and the next field of each event.
+pub fn chained(threads: &[Vec<u8>; 4]) -> ([u8; 4], Vec<u8>) {
+    let mut nexts = vec![0; threads.iter().map(|thread| thread.len()).sum()];
+    for step in threads.iter().flat_map(|thread| thread.windows(2)) {
+        nexts[step[0] as usize - 1] = step[1];
+    }
+    let head = |t: usize| threads[t].first().copied().unwrap_or(0);
+    ([head(0), head(1), head(2), head(3)], nexts)
+}
+
 /// The file with some of its bytes set to other values.
 pub fn set(file: &[u8], edits: &[(usize, u8)]) -> Vec<u8> {
     let mut changed = file.to_vec();
@@ -55,6 +87,7 @@ pub const COUNT_LOCATIONS: usize = 2;
 pub const COUNT_LINKS: usize = 3;
 pub const HEAD_1: usize = 4;
 
+pub const NEXT: usize = 0;
 pub const CLASS: usize = 1;
 pub const MODE: usize = 2;
 pub const FLAG: usize = 3;

@@ -5,6 +5,7 @@ mod boundary;
 mod boundary_events;
 mod boundary_links;
 mod boundary_several;
+mod boundary_threads;
 mod damage;
 mod demand3;
 mod draft;
@@ -20,6 +21,7 @@ mod litmus;
 mod models;
 #[path = "../../shared/random.rs"]
 mod random;
+mod reach;
 mod recording;
 mod relation;
 mod rules;

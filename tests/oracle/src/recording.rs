@@ -1,4 +1,5 @@
-//! The recording: its layout, the causes of refusal 1 to 10 in their order, and decoding (01, "The recording").
+//! The recording: its layout, the causes of refusal 1 to 10 and 13 in their order, and decoding (01, "The recording").
+//! The order is that of the numbers, but for 13, which comes directly after 6.
 
 use crate::relation::{acyclic, Relation};
 
@@ -19,6 +20,15 @@ pub const CASDEP: u8 = 7;
 
 /// The initial write of location l has the number 56 + l.
 pub const INITIAL: u8 = 56;
+
+/// A thread has at most so many recorded events.
+const MOST_IN_SOURCE_THREAD: usize = 12;
+const MOST_IN_CHIP_THREAD: usize = 18;
+
+/// The limit of a thread in a recording of this kind.
+pub fn most_in_thread(kind: u8) -> usize {
+    if kind == SOURCE { MOST_IN_SOURCE_THREAD } else { MOST_IN_CHIP_THREAD }
+}
 
 #[derive(Clone)]
 pub struct Event {
@@ -74,6 +84,9 @@ pub fn load(file: &[u8]) -> Result<Recording, u8> {
         return Err(5);
     }
     let threads = thread_chains(&heads, &events).ok_or(6)?;
+    if threads.iter().any(|thread| thread.len() > most_in_thread(kind)) {
+        return Err(13);
+    }
     let targets = link_targets(&events, &links).ok_or(7)?;
     let recording = Recording { kind, locations, heads, events, links, threads, targets };
     if !recording.link_conditions_hold() {

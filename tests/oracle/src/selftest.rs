@@ -1,12 +1,15 @@
-//! The oracle's own tests: boundary files, litmus rows, worked examples, operators, and its own answers.
+//! The oracle's own tests: boundary files, litmus rows, worked examples, operators, its own answers,
+//! and what generated files reach.
 
 use crate::boundary;
+use crate::boundary_threads::{pairs, translated_pairs};
 use crate::damage::any_file;
 use crate::handmade::{bytes, outcome};
 use crate::hex::to_hex;
 use crate::litmus;
 use crate::random::Random;
-use crate::recording::load;
+use crate::reach::{self, Reach};
+use crate::recording::{load, CHIP, SOURCE};
 use crate::relation::*;
 use crate::shown::{answer, fault};
 use crate::translation::translate;
@@ -58,10 +61,15 @@ pub fn run() -> bool {
     }
     let got = translate(&bytes(worked::TRANSLATION_FROM));
     tally.test("the worked translation", got == Ok(bytes(worked::TRANSLATION_TO)), || format!("{got:?}"));
+    for each in [[6, 0, 0, 0], [6, 6, 4, 0]] {
+        let got = translate(&pairs(each));
+        tally.test("strong pairs translated", got == Ok(translated_pairs(each, 0)), || format!("{each:?}: {got:?}"));
+    }
     let chip = translate(&bytes(worked::TRANSLATION_TO));
     tally.test("a chip file is not translated", chip == Err(11), || format!("{chip:?}"));
     operators(&mut tally);
     own_answers(&mut tally);
+    generated_files(&mut tally);
     println!("{} passed, {} failed", tally.passed, tally.failed);
     tally.failed == 0
 }
@@ -124,4 +132,22 @@ fn own_answers(tally: &mut Tally) {
         let altered = format!("{ours}x");
         tally.test("altered answer", fault(&file, &altered).is_some(), || format!("{} {altered}", to_hex(&file)));
     }
+}
+
+/// Drawn recordings load and reach every limit; those with a thread too long are refused with 13, the longest threads
+/// from one over the limit to all events in one; and generated files have every outcome.
+fn generated_files(tally: &mut Tally) {
+    let mut random = Random::new(3);
+    for (kind, too_long) in [(SOURCE, 13..=32), (CHIP, 19..=48)] {
+        let (reached, refusals) = reach::of_recordings(&mut random, kind, 20_000);
+        let wanted = Reach::limits(kind);
+        tally.test("drawn recordings load", refusals.is_empty(), || format!("kind {kind}: refused {refusals:?}"));
+        tally.test("drawn recordings reach the limits", reached == wanted, || format!("kind {kind}: {reached:?}"));
+        let (longest, outcomes) = reach::of_too_long(&mut random, kind, 5_000);
+        let refused = outcomes == [13].into();
+        tally.test("drawn threads too long", longest == too_long.collect(), || format!("kind {kind}: {longest:?}"));
+        tally.test("a thread too long is refused with 13", refused, || format!("kind {kind}: {outcomes:?}"));
+    }
+    let outcomes = reach::of_files(&mut random, 20_000);
+    tally.test("every outcome arises", outcomes == (0..=10).chain([13]).collect(), || format!("{outcomes:?}"));
 }

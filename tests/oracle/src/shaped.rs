@@ -26,6 +26,11 @@ impl Shaped {
         number
     }
 
+    /// So many events a thread can still take.
+    pub fn room(&self, thread: usize) -> usize {
+        most_in_thread(self.draft.kind).saturating_sub(self.draft.threads[thread].len())
+    }
+
     pub fn new_location(&mut self) -> u8 {
         self.orders.push(Vec::new());
         self.orders.len() as u8 - 1

@@ -3,7 +3,7 @@
 use crate::recording::*;
 use std::collections::BTreeSet;
 
-/// The translation's bytes, or the number of the refusal: 1 to 10 as loading gives, 11 for a chip file.
+/// The translation's bytes, or the number of the refusal: that of loading, or 11 for a chip file.
 pub fn translate(file: &[u8]) -> Result<Vec<u8>, u8> {
     let source = load(file)?;
     if source.kind != SOURCE {
