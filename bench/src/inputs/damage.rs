@@ -1,4 +1,4 @@
-//! Damaged files: recordings of full size with one fault, for each cause of refusal 1 to 10.
+//! Damaged files: recordings of full size with one fault, for each cause of refusal of a file.
 //! Assumes drafts that load; that a fault gives its cause is tested by the caller.
 
 use super::draft::{Draft, Link};
@@ -23,6 +23,7 @@ pub fn damaged(random: &mut Random, mut draft: Draft, cause: u8) -> Vec<u8> {
     match cause {
         9 => co_ring(random, &mut draft),
         10 => unpaired(random, &mut draft),
+        13 => long_thread(random, &mut draft),
         _ => {}
     }
     let mut file = draft.to_bytes(random);
@@ -103,6 +104,19 @@ fn link_chain(random: &mut Random, draft: &Draft, file: &mut [u8]) {
 fn illegal_link(random: &mut Random, draft: &Draft, file: &mut [u8]) {
     let (field, value) = random.pick(&[(LINK_TYPE, 8), (LINK_SOURCE, INITIAL as u8 - 1), (LINK_LAST, 1)]);
     file[in_link(draft, any_link(random, draft), field)] = value;
+}
+
+/// Threads joined, whole ones, until one is over the limit.
+fn long_thread(random: &mut Random, draft: &mut Draft) {
+    let mut order = [0, 1, 2, 3];
+    random.shuffle(&mut order);
+    let [first, rest @ ..] = order;
+    for thread in rest {
+        if draft.threads[first].len() <= most_in_thread(draft.kind) {
+            let joined = std::mem::take(&mut draft.threads[thread]);
+            draft.threads[first].extend(joined);
+        }
+    }
 }
 
 /// A co link both ways, in the place of a dependency.

@@ -26,6 +26,9 @@ const EACH: usize = 8;
 /// Allowed, and the rules whose breaking takes all of a verdict's work.
 const OUTCOMES: [u8; 4] = [0, 3, 4, 5];
 
+/// The causes of refusal of a file, in the order in which they are tried.
+const CAUSES: [u8; 11] = [1, 2, 3, 4, 5, 6, 13, 7, 8, 9, 10];
+
 const MOST_DRAWN: usize = 100_000;
 
 /// Every row of the table.
@@ -98,11 +101,11 @@ fn recordings_by_outcome(kind: u8, verdict: Function) -> [Vec<File>; 4] {
 
 /// All calls on damaged files of every cause, then loading by cause.
 fn damaged_rows(rows: &mut Vec<Row>) {
-    let by_cause: Vec<Vec<File>> = (1..=10).map(damaged_by).collect();
+    let by_cause = CAUSES.map(damaged_by);
     for call in CALLS {
         add(rows, "damaged", call, by_cause.concat());
     }
-    for (cause, files) in (1..).zip(by_cause) {
+    for (cause, files) in CAUSES.into_iter().zip(by_cause) {
         add(rows, &format!("damaged-{cause}"), LOAD, files);
     }
 }

@@ -1,4 +1,4 @@
-//! Recordings of full size that load: 32 events and 200 links of a source, 48 events and 255 links of a chip.
+//! Recordings of full size that load: 32 events and 200 links of a source, 48 events and 255 links of a chip, in four threads.
 //! rf and co follow one interleaving of all threads, or stray from it in a few places, so that some recordings are allowed
 //! and others broken by rules 3, 4 and 5.
 
@@ -44,21 +44,28 @@ fn events(random: &mut Random, kind: u8) -> Draft {
     let fences = random.pick(&[5, 15]);
     let pairs = random.pick(&[10, 30]);
     while let Some(n) = left.pop() {
-        let thread = random.below(4);
-        draft.threads[thread].push(n);
         if random.chance(fences) {
             *draft.event_mut(n) = fence(random, kind);
+            put(random, &mut draft, &[n]);
         } else if left.is_empty() || !random.chance(pairs) {
             let class = random.pick(&[READ, WRITE]);
             *draft.event_mut(n) = access(random, class, locations);
             draft.event_mut(n).flag = (class == READ && random.chance(5)) as u8;
+            put(random, &mut draft, &[n]);
         } else {
             let write = left.pop().unwrap_or(n);
-            draft.threads[thread].push(write);
             pair(random, &mut draft, n, write);
+            put(random, &mut draft, &[n, write]);
         }
     }
     draft
+}
+
+/// Puts events that stand together behind a thread that has room for them.
+fn put(random: &mut Random, draft: &mut Draft, events: &[usize]) {
+    let room = most_in_thread(draft.kind) - events.len();
+    let open: Vec<usize> = (0..4).filter(|&t| draft.threads[t].len() <= room).collect();
+    draft.threads[random.pick(&open)].extend(events);
 }
 
 fn fence(random: &mut Random, kind: u8) -> Event {

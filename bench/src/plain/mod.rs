@@ -91,7 +91,7 @@ fn verdict_on(kind: u8, judge: fn(&Execution) -> Verdict, file: &[u8], out: &mut
 /// The translation of a source recording that loads; it loads, with the same coherence order.
 fn translated(source: &Loaded) -> Loaded {
     let recording = translation::translate(&source.recording);
-    let po = recording.program_order().expect("the chains of a translation meet each event once");
+    let po = recording.program_order().expect("a translation's chains meet each event once and keep to the limit");
     Loaded { recording, po, co: source.co }
 }
 

@@ -1,4 +1,4 @@
-//! A recording, decoded once from a file's bytes, and the causes of refusal 1 to 10 in their order.
+//! A recording, decoded once from a file's bytes, and the causes of refusal 1 to 10 and 13 in their order: 13 comes after 6.
 //! Assumes nothing of the bytes.
 
 use super::relation::{has, members, single, Relation, Set};
@@ -22,6 +22,14 @@ pub const CASDEP: usize = 7;
 pub const INITIAL: usize = 56;
 
 pub const MOST_EVENTS: usize = 48;
+
+const MOST_IN_SOURCE_THREAD: usize = 12;
+const MOST_IN_CHIP_THREAD: usize = 18;
+
+/// The most events of a thread.
+pub fn most_in_thread(kind: u8) -> usize {
+    if kind == SOURCE { MOST_IN_SOURCE_THREAD } else { MOST_IN_CHIP_THREAD }
+}
 
 #[derive(Clone, Copy, Default)]
 pub struct Event {
@@ -72,7 +80,7 @@ pub fn load(file: &[u8]) -> Result<Loaded, u8> {
         sources: [Relation::empty(); 8],
     };
     recording.read_events(event_part)?;
-    let po = recording.program_order().ok_or(6)?;
+    let po = recording.program_order()?;
     let targets = link_targets(event_part, link_part, header.links).ok_or(7)?;
     recording.read_links(link_part, &targets, &po)?;
     let co = recording.coherence();
@@ -166,23 +174,25 @@ impl Recording {
         }
     }
 
-    /// Earlier to later in a thread, and every initial write to every recorded event; none where cause 6 applies.
-    pub fn program_order(&self) -> Option<Relation> {
+    /// Earlier to later in a thread, and every initial write to every recorded event; causes 6 and 13.
+    pub fn program_order(&self) -> Result<Relation, u8> {
         let mut po = Relation::empty();
         let mut met: Set = 0;
+        let mut longest = 0;
         for head in self.heads {
             let mut thread = [0; MOST_EVENTS];
             let mut length = 0;
             let mut at = head as usize;
             while at != 0 {
                 if at > self.count || has(met, at) {
-                    return None;
+                    return Err(6);
                 }
                 met |= single(at);
                 thread[length] = at;
                 length += 1;
                 at = self.events[at].next as usize;
             }
+            longest = longest.max(length);
             let mut later: Set = 0;
             for &e in thread[..length].iter().rev() {
                 po[e] = later;
@@ -192,7 +202,13 @@ impl Recording {
         for e in members(self.initial()) {
             po[e] = self.recorded();
         }
-        (met == self.recorded()).then_some(po)
+        if met != self.recorded() {
+            return Err(6);
+        }
+        if longest > most_in_thread(self.kind) {
+            return Err(13);
+        }
+        Ok(po)
     }
 
     /// Decodes the link records; cause 8.
