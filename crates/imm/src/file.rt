@@ -11,7 +11,8 @@ ghost use Rattle.recording.specs.Load.{LoadsAs};
 ghost use Rattle.execution.specs.OnFile.{OnRecording, OnFile};
 ghost use Rattle.imm.specs.Judged.{Judged};
 
-// The verdict on a source recording, and what is shown of it: refused with 1 to 10 or 13 as loading does, with 11 where it is of the other side.
+// The verdict on a source recording, and what is shown of it: refused with 1 to 10 or 13 as loading does, with 11 where it is of the other
+// side.
 pub fn verdict(file: &[u8]) -> Verdict
     ensures { λ r. ⌜ OnFile source IMM Judged (now (file .entry)) r ⌝ }
 {

@@ -16,8 +16,8 @@ ghost use Rattle.recording.specs.Input.{ReadOf};
 ghost use Rattle.output.specs.Output.{Fills};
 ghost use Rattle.translation.specs.Translation.{translation};
 
-// Writes the translation of a file to the start of the output. Refused with 1 to 10 or 13 as loading does, with 11 where the file is of kind 2,
-// with 12 where the output is shorter than the translation; a refusal leaves the output as it was.
+// Writes the translation of a file to the start of the output. Refused with 1 to 10 or 13 as loading does, with 11 where the file is of
+// kind 2, with 12 where the output is shorter than the translation; a refusal leaves the output as it was.
 pub fn translate(file: &[u8], out: &mut [u8]) -> Filled
     ensures { λ r. ⌜ Fills (causeFor source (now (file .entry))) (translation (now (file .entry))) (now (out .entry)) r (now (out .exit)) ⌝ }
 {
