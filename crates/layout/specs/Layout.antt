@@ -44,10 +44,11 @@ sideOf k = eqb k 1
 abbrev pub side : List ℕ → Side
 side f = sideOf (kind f)
 
--- The limits, of source and of chip: event records, locations, link records, and events of one thread (02, slip 1).
+-- A number by side: a of source, b of chip.
 unfoldable pub bySide : ℕ → ℕ → Side → ℕ
 bySide a b s = elim s [ true ↦ a | false ↦ b ]
 
+-- The limits: event records, locations, link records, and events of one thread (02, slip 1: "12 becomes the limit for kind 1 and 18 for kind 2").
 abbrev pub mostEvents : Side → ℕ
 mostEvents = bySide 32 48
 

@@ -22,7 +22,7 @@ pub fn side_of(kind: usize) -> bool
     kind == 1
 }
 
-// The limit of this side: a of source, b of chip.
+// The number of this side: a of source, b of chip.
 pub fn by_side(a: usize, b: usize, source: bool) -> usize
     ensures { λ r. ⌜ r ≡ bySide a b source ⌝ }
 {

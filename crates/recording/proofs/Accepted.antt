@@ -3,18 +3,19 @@ use mathlib.Core.Path.{_≡_, refl, sym, ap, _∙_}
 use mathlib.Core.Bool.{Bool, true, false, _&&_, false≢true}
 use mathlib.Core.List.{List, [], _∷_}
 use mathlib.Core.Logic.{inl, inr}
-use Prim.Native.Nat.{ℕ, zero, suc, _-_, _<_, _≤_}
+use Prim.Native.Nat.{ℕ, zero, suc, _<_, _≤_}
 use native.Mathlib.Omega.{arith}
-use borrow.Author.Tests.{eqb-true, leb-true, not-false}
+use borrow.Author.Tests.{eqb-true, ltb-false, not-false}
 use lib.Dec.{eqb}
 use lib.ListN.{length}
-use Rattle.relation.specs.Rel.{Set, some}
-use Rattle.relation.proofs.Meaning.{and-left, and-right, and-both, or-either}
+use Rattle.relation.specs.Rel.{Set, some, below}
+use Rattle.relation.proofs.Meaning.{and-left, and-right, and-both, or-either, some-complete, mem-below}
+use Rattle.relation.proofs.Truth.{is-false}
 use Rattle.models.proofs.FirstLaws.{testOf, positive, first-fails, NonePass, none-first}
 use Rattle.layout.specs.Layout.{kind, sideOf, side, source, chip, events, locations, links, threads, kindKnown, bySide, mostEvents, mostLinks, mostInThread, fullLength, linkByte, Sized}
 use Rattle.layout.specs.Chains.{each, thread, threadsSound, linksSound, linksInto, allOf}
 use Rattle.layout.specs.Decode.{isRecorded, decode}
-use Rattle.recording.specs.Causes.{eventLegal, threadFits, linkLegal, linkSound, oneSource, tooShort, kindUnknown, overLimit, wrongLength, badEvent, badThreads, longThread, badChains, badLink, coRing, unpaired, linksSoundAt, headerCauses, recordCauses, linkCauses, causes, refusal}
+use Rattle.recording.specs.Causes.{eventLegal, tooLong, linkLegal, linkSound, oneSource, tooShort, kindUnknown, overLimit, wrongLength, badEvent, badThreads, longThread, badChains, badLink, coRing, unpaired, linksSoundAt, headerCauses, recordCauses, linkCauses, causes, refusal}
 use Rattle.recording.specs.Load.{LoadsAs}
 use Rattle.layout.proofs.FieldLaws.{recorded-bounds}
 use Rattle.layout.proofs.ChainLaws.{each-at}
@@ -88,11 +89,10 @@ module _ (f : List ℕ) (loads : refusal f ≡ 0) where
   threads-sound = not-false _ (passes f loads 6)
 
   pub thread-length : (t : ℕ) → t < threads → length (thread f t) ≤ mostInThread (side f)
-  unfolding cause longThread threadFits
+  unfolding cause longThread tooLong
   thread-length t h =
-      let same : suc t - 1 ≡ t = omega arith in
-      let fits = each-at threads (threadFits f) (not-false _ (passes f loads 13)) (suc t) (omega arith) (omega arith) in
-      rw same at (leb-true (length (thread f (suc t - 1))) (mostInThread (side f)) fits)
+      ltb-false (mostInThread (side f)) (length (thread f t)) (is-false (tooLong f t) (λ p.
+      false≢true (sym (passes f loads 13) ∙ some-complete (below threads) (tooLong f) t (mem-below threads t h) p)))
 
   pub links-sound : linksSound f ≡ true
   unfolding cause badChains

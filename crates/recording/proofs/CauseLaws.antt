@@ -3,12 +3,13 @@ use mathlib.Core.Path.{_≡_, refl, sym, ap, ap₂, subst, _∙_}
 use mathlib.Core.Bool.{Bool, true, false, not, _&&_, _||_, Bool·beq, false≢true}
 use mathlib.Core.List.{List, [], _∷_, _++_}
 use Prim.Native.Nat.{ℕ, zero, suc, _+_, _-_, _*_, _<_, _≤_}
+use native.Mathlib.Numerals.{add-one}
 use native.Mathlib.Omega.{arith}
 use native.Mathlib.Decide.{ℕ-discrete, decLt}
 use borrow.Author.Tests.{eq-eqb, ne-eqb, lt-ltb, le-ltb, ltb-false, not-false}
 use lib.Dec.{eqb, leb, ltb}
 use lib.ListN.{length}
-use Rattle.relation.specs.Rel.{Set, single, difference, inverse, some, least, nodes}
+use Rattle.relation.specs.Rel.{Set, single, difference, inverse, some, least, below, nodes}
 use Rattle.relation.proofs.Meaning.{some-least, and-left, and-right, and-both, or-none, some-sound, some-complete, mem-below, below-mem}
 use Rattle.relation.proofs.SetLaws.{least-is, least-lt}
 use Rattle.models.specs.Recording.{Recording, event, ofClass, flagged}
@@ -19,7 +20,7 @@ use Rattle.layout.specs.Layout.{Side, side, events, locations, links, linkByte,
 use Rattle.layout.specs.Chains.{among, chain, met, fresh, pushed, onceEach, nextOf, startOf, head, nextLink, firstLink, linksInto, linksSound, allOf}
 use Rattle.layout.specs.Decode.{decode}
 use Rattle.reading.specs.Readable.{within, readable, Chained, Readable}
-use Rattle.recording.specs.Causes.{rfLegal, coLegal, rmwLegal, fromRead, dataLegal, addrLegal, ctrlLegal, casdepLegal, linkLegal, linkSound, oneSource, linksSoundAt, pairedAt, threadFits, headerOver, overLimit, badThreads, badChains, badLink, headerCauses, recordCauses, linkCauses, causes, refusal}
+use Rattle.recording.specs.Causes.{rfLegal, coLegal, rmwLegal, fromRead, dataLegal, addrLegal, ctrlLegal, casdepLegal, linkLegal, linkSound, oneSource, linksSoundAt, pairedAt, tooLong, headerOver, overLimit, badThreads, badChains, badLink, headerCauses, recordCauses, linkCauses, causes, refusal}
 use Rattle.recording.specs.Load.{headerOf, answer, loadOf, numberOf, LoadsAs, otherSide, causeFor}
 use Rattle.recording.specs.declared.Header.{Header}
 use Rattle.recording.specs.declared.Load.{Load}
@@ -211,11 +212,16 @@ pub threads-are : (f : List ℕ) (n : ℕ) (b : Bool) → n ≡ events f → b �
 unfolding badThreads
 threads-are f n b e p = ap not (p ∙ ap (λ (k : ℕ). onceEach k (met k (nextOf f 8 8) (startOf f 4 1) 4)) e)
 
-pub fits-are : (f : List ℕ) (t n x k m : ℕ) (s : Side) → n ≡ events f → x ≡ head f (t - 1) → k ≡ length (chain n (nextOf f 8 8) x) → s ≡ side f
-    → m ≡ mostInThread s → leb k m ≡ threadFits f t
-unfolding threadFits
-fits-are f t n x k m s e h p q l =
-    ap₂ leb (p ∙ ap₂ (λ (i j : ℕ). length (chain i (nextOf f 8 8) j)) e h) (l ∙ ap mostInThread q)
+pub long-is : (f : List ℕ) (t n x k m : ℕ) (s : Side) → s ≡ side f → m ≡ mostInThread s → n ≡ events f → x ≡ head f t
+    → k ≡ length (chain n (nextOf f 8 8) x) → ltb m k ≡ tooLong f t
+unfolding tooLong
+long-is f t n x k m s q l e h p =
+    ap₂ ltb (l ∙ ap mostInThread q) (p ∙ ap₂ (λ (i j : ℕ). length (chain i (nextOf f 8 8) j)) e h)
+
+-- A test of the numbers below n, one number more.
+pub some-more : (n : ℕ) (s : Set) → some (below n) s ≡ false → s n ≡ false → some (below (n + 1)) s ≡ false
+unfolding some below
+some-more n s a b = ap (λ (k : ℕ). some (below k) s) (add-one n) ∙ ap₂ _||_ b a
 
 pub chains-are : (f : List ℕ) (n m : ℕ) (b : Bool) → n ≡ events f → m ≡ links f
     → b ≡ onceEach m (met m (nextOf f (8 + 8 * n) 4) (startOf f 15 8) n) → not b ≡ badChains f

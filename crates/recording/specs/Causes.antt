@@ -1,11 +1,11 @@
--- The causes of refusal 1 to 10 (01, "Causes of refusal, in order") and 13 (02, slip 1): each is one definition, and `refusal` is the first that
--- applies.
+-- The causes of refusal 1 to 10 (01, "Causes of refusal, in order") and 13 (02, slip 1: "just after 6, when a thread is longer").
+-- Each is one definition, and `refusal` is the first that applies.
 use mathlib.Core.Bool.{Bool, true, false, _&&_, _||_, not}
 use mathlib.Core.List.{List, [], _∷_, _++_}
-use Prim.Native.Nat.{ℕ, _-_}
+use Prim.Native.Nat.{ℕ}
 use lib.Dec.{eqb, leb, ltb}
 use lib.ListN.{length, getD}
-use Rattle.relation.specs.Rel.{some, inverse, diagonal, nodes}
+use Rattle.relation.specs.Rel.{some, inverse, diagonal, below, nodes}
 use Rattle.models.specs.Recording.{Recording, read, write, access, exclusiveRead, strongWrite}
 use Rattle.models.specs.Graph.{base}
 use Rattle.models.specs.Rules.{Numbered, first}
@@ -48,9 +48,9 @@ eventLegal f e =
     let r : Recording ℕ = decode f in
     legal (side f) (locations f) (r .class e) (r .mode e) (r .flag e) (r .location e) (r .value e)
 
--- 13. Thread t, from 1, has no more events than its side allows.
-unfoldable pub threadFits : List ℕ → ℕ → Bool
-threadFits f t = leb (length (thread f (t - 1))) (mostInThread (side f))
+-- 13. Thread t, from 0, has more events than its side allows.
+unfoldable pub tooLong : List ℕ → ℕ → Bool
+tooLong f t = ltb (mostInThread (side f)) (length (thread f t))
 
 -- 8. The conditions of a link by its type, from a to b of a recording.
 module _ (r : Recording ℕ) where
@@ -138,9 +138,9 @@ module _ (f : List ℕ) where
   unfoldable pub badThreads : Bool
   badThreads = not (threadsSound f)
 
-  -- 13 thread longer than its limit
+  -- 13 a thread longer than its limit
   unfoldable pub longThread : Bool
-  longThread = not (each threads (threadFits f))
+  longThread = some (below threads) (tooLong f)
 
   -- 7 link chain: index over M, link met twice or never
   unfoldable pub badChains : Bool

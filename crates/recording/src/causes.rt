@@ -24,7 +24,7 @@ ghost use Rattle.layout.specs.Layout.{events, threads, Sized};
 ghost use Rattle.layout.specs.Chains.{each};
 ghost use Rattle.layout.specs.Decode.{decode};
 ghost use Rattle.reading.specs.Readable.{Readable, Chained};
-ghost use Rattle.recording.specs.Causes.{threadFits, linksSoundAt, pairedAt, headerOver, headerCauses, recordCauses, linkCauses, badThreads, badChains, coRing};
+ghost use Rattle.recording.specs.Causes.{tooLong, linksSoundAt, pairedAt, headerOver, headerCauses, recordCauses, linkCauses, badThreads, longThread, badChains, coRing};
 ghost use Rattle.recording.specs.Load.{headerOf, loadOf, numberOf, causeFor};
 
 // Whether all links are sound.
@@ -88,30 +88,29 @@ pub fn threads_sound(file: &[u8]) -> bool
     chain::once_each(file, 4, 1, 4, 8, 8, n)
 }
 
-// Whether thread t, from 1, has no more events than a file of this side may have.
-pub fn thread_fits(file: &[u8], t: usize) -> bool
-    requires { ⌜ Sized (now file) × (1 ≤ t) × (t ≤ threads) ⌝ }
-    ensures { λ r. ⌜ r ≡ threadFits (now (file .entry)) t ⌝ }
+// Whether thread t, from 0, has more events than a file of this side may have.
+pub fn too_long(file: &[u8], t: usize) -> bool
+    requires { ⌜ Sized (now file) × (t < threads) ⌝ }
+    ensures { λ r. ⌜ r ≡ tooLong (now (file .entry)) t ⌝ }
 {
+    let most = kind::most_in_thread(field::side(file));
     let n = field::events(file);
-    let start = Cursor::start(file, 4, 1, t - 1);
-    let long = chain::count(file, 8, 8, n, start);
-    long <= kind::most_in_thread(field::side(file))
+    most < chain::count(file, 8, 8, n, Cursor::start(file, 4, 1, t))
 }
 
-// Whether every thread does.
-pub fn threads_fit(file: &[u8]) -> bool
+// Whether some thread has.
+pub fn long_thread(file: &[u8]) -> bool
     requires { ⌜ Sized (now file) ⌝ }
-    ensures { λ r. ⌜ r ≡ each threads (threadFits (now (file .entry))) ⌝ }
+    ensures { λ r. ⌜ r ≡ longThread (now (file .entry)) ⌝ }
 {
     let mut t: usize = 0;
     while t < 4 {
-        t += 1;
-        if !thread_fits(file, t) {
-            return false;
+        if too_long(file, t) {
+            return true;
         }
+        t += 1;
     }
-    true
+    false
 }
 
 // Whether the event chains meet every link once: the first link into an event is the last byte of its record, byte 15 for event 1;
@@ -136,7 +135,7 @@ pub fn record_refusal(file: &[u8]) -> u8
     if !threads_sound(file) {
         return 6;
     }
-    if !threads_fit(file) {
+    if long_thread(file) {
         return 13;
     }
     if !chains_sound(file) {

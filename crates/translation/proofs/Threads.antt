@@ -89,11 +89,9 @@ module _ (f : List ℕ) (s : Source f) where
       v : ℕ
       v = nextEvent f w
 
-  few-strong : (t : ℕ) → t < threads → strongIn f t ≤ 6
-  unfolding bySide
-  few-strong t h =
-      let ended = chain-ended (events f) (nextEvent f) (head f) threads t h (source.threads-fresh f s) in
-      omega (arith, half (events f) (nextEvent f) (strong old) strong-apart ended .0, source-thread f s t h)
+  strong-half : (t : ℕ) → t < threads → 2 * strongIn f t ≤ length (thread f t) + 1
+  strong-half t h =
+      half (events f) (nextEvent f) (strong old) strong-apart (chain-ended (events f) (nextEvent f) (head f) threads t h (source.threads-fresh f s)) .0
 
   weaves : Weaves (old .events) (newEvents old) (old .next) (after old) (strong old) (inserted old)
   weaves = law.weaves old (source.few-events f s)
@@ -119,4 +117,8 @@ module _ (f : List ℕ) (s : Source f) where
   unfolding translation bySide
   thread-translated t h =
       let longer = ap length (thread-woven t h) ∙ woven-length (strong old) (inserted old) (thread f t) in
-      record { few-strong = few-strong t h; longer = longer; enough = omega (arith, longer, few-strong t h, source-thread f s t h) }
+      record {
+        few-strong = omega (arith, strong-half t h, source-thread f s t h);
+        longer = longer;
+        enough = omega (arith, longer, strong-half t h, source-thread f s t h);
+      }

@@ -3,14 +3,14 @@ use mathlib.Core.Path.{_≡_, refl, sym, ap, _∙_}
 use mathlib.Core.Bool.{true, false, not, _&&_, false≢true}
 use mathlib.Core.List.{List}
 use mathlib.Core.Logic.{inl, inr}
-use Prim.Native.Nat.{ℕ, _+_, _-_, _*_, _<_, _≤_}
+use Prim.Native.Nat.{ℕ, _+_, _*_, _<_, _≤_}
 use native.Mathlib.Omega.{arith}
 use native.Mathlib.Decide.{decLe}
-use borrow.Author.Tests.{eq-eqb, eqb-true, le-leb, le-ltb}
+use borrow.Author.Tests.{eq-eqb, eqb-true, le-ltb, ltb-true}
 use lib.Dec.{T, eqb}
 use lib.ListN.{length}
-use Rattle.relation.specs.Rel.{nodes, inverse, some}
-use Rattle.relation.proofs.Meaning.{and-right, and-both, or-left}
+use Rattle.relation.specs.Rel.{nodes, below, inverse, some}
+use Rattle.relation.proofs.Meaning.{and-right, and-both, or-left, some-sound, below-mem}
 use Rattle.models.specs.Recording.{Recording, event, read, write, strongWrite}
 use Rattle.models.specs.Loads.{Loads}
 use Rattle.models.specs.Translated.{Translated}
@@ -20,7 +20,7 @@ use Rattle.layout.specs.Layout as layout
 use Rattle.layout.specs.Layout.{Side, sideOf, side, events, locations, threads, kindKnown, bySide, mostInThread, fullLength, linkByte}
 use Rattle.layout.specs.Chains.{thread, linksInto, allOf}
 use Rattle.layout.specs.Decode.{decode}
-use Rattle.recording.specs.Causes.{eventLegal, threadFits, legal, linkLegal, linkSound, oneSource, linksSoundAt, pairedAt, headerOver, rfLegal, sameLocations, tooShort, kindUnknown, overLimit, wrongLength, badEvent, longThread, badChains, badLink, coRing, unpaired, refusal}
+use Rattle.recording.specs.Causes.{eventLegal, tooLong, legal, linkLegal, linkSound, oneSource, linksSoundAt, pairedAt, headerOver, rfLegal, sameLocations, tooShort, kindUnknown, overLimit, wrongLength, badEvent, longThread, badChains, badLink, coRing, unpaired, refusal}
 use Rattle.translation.specs.Contents.{Contents, contents}
 use Rattle.translation.specs.Translate.{flagged, strong, newEvents, newFlag, translated}
 use Rattle.translation.specs.Encode.{linksBefore, linksUpTo, linkRecord, encode}
@@ -135,9 +135,12 @@ module _ (f : List ℕ) (s : Source f) where
 
   -- 6 and 13: the threads.
   threads-short : longThread (encode (chip f)) ≡ false
-  unfolding longThread threadFits translation
-  threads-short = ap not (each-all threads (threadFits (encode (chip f))) (λ t h g.
-      le-leb (length (thread (encode (chip f)) (t - 1))) (mostInThread (side (encode (chip f)))) (rw chip-side (thread-translated f s (t - 1) (omega arith) .enough))))
+  unfolding longThread tooLong translation
+  threads-short = is-false (longThread (encode (chip f))) (λ p.
+      let w = some-sound (below threads) (tooLong (encode (chip f))) p in
+      let room = thread-translated f s (w .0) (below-mem threads (w .0) (w .1)) .enough in
+      let over = rw chip-side at (ltb-true (mostInThread (side (encode (chip f)))) (length (thread (encode (chip f)) (w .0))) (w .2)) in
+      omega (arith, room, over))
 
   -- 7: the link chains.
   chains-fine : badChains (encode (chip f)) ≡ false

@@ -5,7 +5,7 @@ use Prim.Native.Nat.{ℕ}
 use lib.ListN.{take}
 use Rattle.models.specs.Rules.{first}
 use Rattle.models.proofs.FirstLaws.{at, positive, first-at, none-more}
-use Rattle.recording.specs.Causes.{badEvent, longThread, recordCauses}
+use Rattle.recording.specs.Causes.{badEvent, recordCauses}
 use Rattle.recording.proofs.CauseLaws.{opposite}
 use borrow.Author.Needs.{needs}
 use Rattle.recording.proofs.causes.record_refusal.Statement.{statement}
@@ -24,9 +24,8 @@ unfolding recordCauses at positive
 none-2 c = none-more 1 (recordCauses (file (c .before .before))) refl (none-1 (c .before .before)) (sym (c .before .threads-sound .ensures) ∙ c .if2 .left)
 
 none-3 : (c : tie.Else3) → first (take 3 (recordCauses (file (c .before .before .before .before)))) ≡ 0
-unfolding recordCauses longThread at positive
-none-3 c =
-    none-more 2 (recordCauses (file (c .before .before .before .before))) refl (none-2 (c .before .before)) (opposite _ _ _ (c .before .threads-fit .ensures) (c .if3 .left))
+unfolding recordCauses at positive
+none-3 c = none-more 2 (recordCauses (file (c .before .before .before .before))) refl (none-2 (c .before .before)) (sym (c .before .long-thread .ensures) ∙ c .if3 .left)
 
 returns : tie.Need-returns
 unfolding recordCauses badEvent at positive first
@@ -37,10 +36,8 @@ unfolding recordCauses at positive
 returns-2 c = sym (first-at 1 (recordCauses _) refl (none-1 (c .before .before)) (sym (c .before .threads-sound .ensures) ∙ c .if2 .taken))
 
 returns-3 : tie.Need-returns-3
-unfolding recordCauses longThread at positive
-returns-3 c =
-    sym
-    (first-at 2 (recordCauses (file (c .before .before .before .before))) refl (none-2 (c .before .before)) (opposite _ _ _ (c .before .threads-fit .ensures) (c .if3 .taken)))
+unfolding recordCauses at positive
+returns-3 c = sym (first-at 2 (recordCauses _) refl (none-2 (c .before .before)) (sym (c .before .long-thread .ensures) ∙ c .if3 .taken))
 
 returns-4 : tie.Need-returns-4
 unfolding recordCauses at positive
