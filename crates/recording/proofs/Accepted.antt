@@ -44,6 +44,7 @@ pub record Accepted (f : List ℕ) : Type 0 where
   pub cause9 : coRing f ≡ false
   pub cause10 : unpaired f ≡ false
 
+-- Each test of the list is found among the fields, whatever the order.
 pub accepts : (f : List ℕ) → Accepted f → refusal f ≡ 0
 unfolding refusal causes headerCauses recordCauses linkCauses NonePass
 accepts f a = none-first (causes f) (search tt)

@@ -207,6 +207,11 @@ sized-of f e long =
     let w = limits f e in
     record { long = long; most-events = omega (arith, w .0, most-events-48 (side f)); most-locations = w .1 }
 
+-- A test of the numbers below n, one number more.
+pub some-more : (n : ℕ) (s : Set) → some (below n) s ≡ false → s n ≡ false → some (below (n + 1)) s ≡ false
+unfolding some below
+some-more n s a b = ap (λ (k : ℕ). some (below k) s) (add-one n) ∙ ap₂ _||_ b a
+
 -- Causes 6, 13 and 7, with what is read from the file.
 pub threads-are : (f : List ℕ) (n : ℕ) (b : Bool) → n ≡ events f → b ≡ onceEach n (met n (nextOf f 8 8) (startOf f 4 1) 4) → not b ≡ badThreads f
 unfolding badThreads
@@ -217,11 +222,6 @@ pub long-is : (f : List ℕ) (t n x k m : ℕ) (s : Side) → s ≡ side f → m
 unfolding tooLong
 long-is f t n x k m s q l e h p =
     ap₂ ltb (l ∙ ap mostInThread q) (p ∙ ap₂ (λ (i j : ℕ). length (chain i (nextOf f 8 8) j)) e h)
-
--- A test of the numbers below n, one number more.
-pub some-more : (n : ℕ) (s : Set) → some (below n) s ≡ false → s n ≡ false → some (below (n + 1)) s ≡ false
-unfolding some below
-some-more n s a b = ap (λ (k : ℕ). some (below k) s) (add-one n) ∙ ap₂ _||_ b a
 
 pub chains-are : (f : List ℕ) (n m : ℕ) (b : Bool) → n ≡ events f → m ≡ links f
     → b ≡ onceEach m (met m (nextOf f (8 + 8 * n) 4) (startOf f 15 8) n) → not b ≡ badChains f
