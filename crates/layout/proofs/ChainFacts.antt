@@ -163,6 +163,12 @@ module _ (limit : ℕ) (next : ℕ → ℕ) where
   ended-positive y end m = absurd (false≢true m)
   ended-positive y (step {x = x} {l = l} p q w) m = elim (among-cases y x l m) [ inl e ↦ omega (arith, e, p) | inr k ↦ ended-positive y w k ]
 
+  -- The number at a place of the chain.
+  pub ended-at : (k : ℕ) {x : ℕ} {l : List ℕ} → Ended limit next x l → k < length l → (1 ≤ getD l k 0) × (getD l k 0 ≤ limit)
+  ended-at k end h = absurd (omega arith)
+  ended-at zero (step p q w) h = (p, q)
+  ended-at (suc k) (step p q w) h = ended-at k w (omega arith)
+
   -- A chain from 0 is empty; one from another number goes on from what follows it.
   pub ended-end : {x : ℕ} {k : List ℕ} → Ended limit next x k → x ≡ 0 → k ≡ []
   ended-end end e = refl

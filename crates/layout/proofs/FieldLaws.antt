@@ -9,7 +9,7 @@ use borrow.Author.Tests.{le-leb, lt-leb, leb-true, ltb-true, eqb-true}
 use lib.Dec.{leb, ltb, eqb}
 use Rattle.relation.proofs.Meaning.{and-left, and-right, or-either}
 use Rattle.models.specs.Recording.{Recording, event, ofClass}
-use Rattle.layout.specs.Layout.{byte, Side, bySide, mostEvents, mostLinks, events, eventByte, firstInitial, locations, Sized}
+use Rattle.layout.specs.Layout.{byte, Side, bySide, mostEvents, mostLinks, mostInThread, events, eventByte, firstInitial, locations, Sized}
 use Rattle.layout.specs.Chains.{nextOf, nextEvent}
 use Rattle.layout.specs.Decode.{isRecorded, isInitial, recordOr, fieldOr, decode}
 
@@ -40,6 +40,9 @@ most-events-48 s = by-side-most 32 48 s (omega arith)
 
 pub most-links-255 : (s : Side) → mostLinks s ≤ 255
 most-links-255 s = by-side-most 200 255 s (omega arith)
+
+pub most-in-thread-18 : (s : Side) → mostInThread s ≤ 18
+most-in-thread-18 s = by-side-most 12 18 s (omega arith)
 
 -- Recorded events.
 pub recorded-yes : (f : List ℕ) (e n : ℕ) → n ≡ events f → 1 ≤ e → leb e n ≡ isRecorded f e

@@ -1,9 +1,10 @@
--- Lines written out: of 01's worked example, of a broken rule, of a refusal, with nothing to show, and of numbers with one to three digits.
+-- Lines written out: of 01's worked example, of a broken rule, of a refusal, with nothing to show.
 use mathlib.Core.Path.{_≡_, refl}
 use mathlib.Core.List.{List, [], _∷_}
 use Prim.Native.Nat.{ℕ}
 use Rattle.verdict.specs.declared.Answer.the-variants.{Refused, Allowed, Broken}
-use Rattle.lines.specs.Lines.{source, chip, decimal, lineOf}
+use Rattle.decimal.specs.Decimal.{decimal}
+use Rattle.lines.specs.Lines.{source, chip, lineOf}
 
 -- `source allowed 1 2 56`
 pub source-line : lineOf source Allowed (1 ∷ 2 ∷ 56 ∷ [])
@@ -32,15 +33,3 @@ refused-line word events = refl
 pub nothing-shown : lineOf source Allowed [] ≡ 115 ∷ 111 ∷ 117 ∷ 114 ∷ 99 ∷ 101 ∷ 32 ∷ 97 ∷ 108 ∷ 108 ∷ 111 ∷ 119 ∷ 101 ∷ 100 ∷ 10 ∷ []
 unfolding decimal lineOf
 nothing-shown = refl
-
-pub digits1 : decimal 0 ≡ 48 ∷ []
-unfolding decimal
-digits1 = refl
-
-pub digits2 : decimal 10 ≡ 49 ∷ 48 ∷ []
-unfolding decimal
-digits2 = refl
-
-pub digits3 : decimal 205 ≡ 50 ∷ 48 ∷ 53 ∷ []
-unfolding decimal
-digits3 = refl

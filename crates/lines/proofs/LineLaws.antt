@@ -5,7 +5,8 @@ use Prim.Native.Nat.{ℕ}
 use Rattle.verdict.specs.declared.Answer.{Answer}
 use Rattle.verdict.specs.declared.Answer.the-variants.{Refused, Allowed, Broken}
 use Rattle.lines.specs.declared.Text.{Text}
-use Rattle.lines.specs.Lines.{allowed, broken, refused, decimal, spaced, lineOf}
+use Rattle.decimal.specs.Decimal.{decimal}
+use Rattle.lines.specs.Lines.{allowed, broken, refused, spaced, lineOf}
 use Rattle.lines.specs.Put.{bytes, Put}
 use Rattle.lines.proofs.PutLaws.{put-first}
 

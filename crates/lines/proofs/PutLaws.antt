@@ -1,17 +1,17 @@
 -- Laws of a text that grows: byte by byte, by a word, by a number in decimal, and by a row of such.
 use mathlib.Core.Path.{_≡_, sym, ap, subst, _∙_}
 use mathlib.Core.List.{List, [], _∷_, _++_, map, append-assoc, append-nil}
-use mathlib.Core.Bool.{Bool, true, false, cond}
 use Prim.Native.Nat.{ℕ, _+_, _*_, _/_, _%_, _<_, _≤_}
 use native.Mathlib.Nat.{le-antisymm}
 use native.Mathlib.Numerals.{add-one}
 use native.Mathlib.Omega.{arith}
-use borrow.Author.Tests.{lt-ltb, le-ltb}
-use lib.Dec.{ltb}
+use native.Mathlib.Decide.{decLt}
 use lib.ListN.{length, getD, take, set, length-append}
 use lib.Seq.{take-suc, take-suc-set, take-all, length-take-le}
 use Rattle.lines.specs.declared.Text.{Text}
-use Rattle.lines.specs.Lines.{digit, decimal, spaced}
+use Rattle.decimal.specs.Decimal.{digit, decimal}
+use Rattle.decimal.proofs.DecimalLaws.{decimal1, decimal2, decimal3}
+use Rattle.lines.specs.Lines.{spaced}
 use Rattle.lines.specs.Put.{bytes, Room, Put}
 
 -- Nothing is put, one byte is put, and what is put is put behind what was put before.
@@ -65,42 +65,39 @@ module _ (t : Text) (w : List ℕ) where
     pub word-all : length w ≤ k → Put t w r
     word-all h = put-as (take-all k w h) (p .put)
 
--- A number in decimal, by the number of its digits.
-decimal1 : (n : ℕ) → n < 10 → decimal n ≡ digit n ∷ []
-unfolding decimal
-decimal1 n h = rw (lt-ltb n 10 h)
+-- A number in decimal, by how many digits it has.
+module _ (n : ℕ) where
+  as-digit : n < 10 → decimal n ≡ digit n ∷ []
+  as-digit h = decimal1 n h ∙ ap (λ (d : ℕ). digit d ∷ []) (omega arith)
 
-decimal2 : (n : ℕ) → 10 ≤ n → n < 100 → decimal n ≡ digit (n / 10) ∷ digit (n % 10) ∷ []
-unfolding decimal
-decimal2 n g h = rw (le-ltb n 10 g, lt-ltb n 100 h)
+  as-digits2 : 10 ≤ n → n < 100 → decimal n ≡ digit (n / 10) ∷ digit (n % 10) ∷ []
+  as-digits2 g h = decimal2 n g h ∙ ap (λ (d : ℕ). digit d ∷ digit (n % 10) ∷ []) (omega arith)
 
-decimal3 : (n : ℕ) → 100 ≤ n → decimal n ≡ digit (n / 100) ∷ digit (n / 10 % 10) ∷ digit (n % 10) ∷ []
-unfolding decimal
-decimal3 n h = rw (le-ltb n 10 (omega arith), le-ltb n 100 h)
+  as-digits3 : 100 ≤ n → n < 1000 → decimal n ≡ digit (n / 100) ∷ digit (n / 10 % 10) ∷ digit (n % 10) ∷ []
+  as-digits3 g h = decimal3 n g h ∙ ap (λ (d : ℕ). digit d ∷ digit (n / 10 % 10) ∷ digit (n % 10) ∷ []) (omega arith)
 
-decimal-short : (n : ℕ) → length (decimal n) ≤ 3
-unfolding decimal
-decimal-short n =
-    go (ltb n 10) (ltb n 100) (digit n) (digit (n / 10)) (digit (n / 100)) (digit (n / 10 % 10)) (digit (n % 10))
-  where
-    go : (p q : Bool) (a b d e f : ℕ) → length (cond p (a ∷ []) (cond q (b ∷ f ∷ []) (d ∷ e ∷ f ∷ []))) ≤ 3
-    go true q a b d e f = omega arith
-    go false true a b d e f = omega arith
-    go false false a b d e f = omega arith
+  pub put-decimal1 : {t r : Text} → n < 10 → Put t (digit n ∷ []) r → Put t (decimal n) r
+  put-decimal1 h p = put-as (sym (as-digit h)) p
 
-pub put-decimal1 : {t r : Text} (n : ℕ) → n < 10 → Put t (digit n ∷ []) r → Put t (decimal n) r
-put-decimal1 n h p = put-as (sym (decimal1 n h)) p
+  pub put-decimal2 : {t u r : Text} → 10 ≤ n → n < 100 → Put t (digit (n / 10) ∷ []) u → Put u (digit (n % 10) ∷ []) r → Put t (decimal n) r
+  put-decimal2 g h p q = put-as (sym (as-digits2 g h)) (put-then p q)
 
-pub put-decimal2 : {t u r : Text} (n : ℕ) → 10 ≤ n → n < 100 → Put t (digit (n / 10) ∷ []) u → Put u (digit (n % 10) ∷ []) r
-    → Put t (decimal n) r
-put-decimal2 n g h p q = put-as (sym (decimal2 n g h)) (put-then p q)
+  pub put-decimal3 : {t u v r : Text} → 100 ≤ n → n < 1000 → Put t (digit (n / 100) ∷ []) u → Put u (digit (n / 10 % 10) ∷ []) v
+      → Put v (digit (n % 10) ∷ []) r → Put t (decimal n) r
+  put-decimal3 g h p q s = put-as (sym (as-digits3 g h)) (put-then (put-then p q) s)
 
-pub put-decimal3 : {t u v r : Text} (n : ℕ) → 100 ≤ n → Put t (digit (n / 100) ∷ []) u → Put u (digit (n / 10 % 10) ∷ []) v
-    → Put v (digit (n % 10) ∷ []) r → Put t (decimal n) r
-put-decimal3 n h p q s = put-as (sym (decimal3 n h)) (put-then (put-then p q) s)
+  decimal-short : n < 1000 → length (decimal n) ≤ 3
+  decimal-short h =
+      elim (decLt n 10) [
+        | yes a ↦ omega (arith, ap length (decimal1 n a))
+        | no a ↦ elim (decLt n 100) [
+          | yes b ↦ omega (arith, ap length (decimal2 n (omega (arith, a)) b))
+          | no b ↦ omega (arith, ap length (decimal3 n (omega (arith, b)) h))
+        ]
+      ]
 
-pub number-short : {t r : Text} (n : ℕ) → Put t (32 ∷ decimal n) r → r .len ≤ t .len + 4
-number-short n p = omega (arith, p .size, decimal-short n)
+  pub number-short : {t r : Text} → n < 1000 → Put t (32 ∷ decimal n) r → r .len ≤ t .len + 4
+  number-short h p = omega (arith, p .size, decimal-short h)
 
 -- The first k of at are put in decimal, each with a space before it.
 spaced-last : (l : List ℕ) (n : ℕ) → spaced (map decimal (l ++ (n ∷ []))) ≡ spaced (map decimal l) ++ (32 ∷ decimal n)

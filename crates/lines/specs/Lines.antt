@@ -1,8 +1,8 @@
 -- The lines that the judge prints (01, "What is shown"), as bytes in ASCII.
 use mathlib.Core.List.{List, [], _∷_, _++_, map}
-use mathlib.Core.Bool.{Bool, true, false, cond}
-use Prim.Native.Nat.{ℕ, _+_, _/_, _%_}
-use lib.Dec.{ltb}
+use mathlib.Core.Bool.{Bool, true, false}
+use Prim.Native.Nat.{ℕ}
+use Rattle.decimal.specs.Decimal.{decimal}
 use Rattle.verdict.specs.declared.Answer.{Answer}
 use Rattle.verdict.specs.declared.Answer.the-variants.{Refused, Allowed, Broken}
 
@@ -26,17 +26,6 @@ refused = 114 ∷ 101 ∷ 102 ∷ 117 ∷ 115 ∷ 101 ∷ 100 ∷ []
 abbrev pub modelWord : Bool → List ℕ
 modelWord true = chip
 modelWord false = source
-
--- The byte of a digit.
-abbrev pub digit : ℕ → ℕ
-digit d = 48 + d
-
--- A number below 1000 in decimal, with no leading zero.
-unfoldable pub decimal : ℕ → List ℕ
-decimal n =
-    cond (ltb n 10) (digit n ∷ [])
-    (cond (ltb n 100) (digit (n / 10) ∷ digit (n % 10) ∷ [])
-    (digit (n / 100) ∷ digit (n / 10 % 10) ∷ digit (n % 10) ∷ []))
 
 -- Each with a space before it.
 abbrev pub spaced : List (List ℕ) → List ℕ

@@ -7,7 +7,8 @@ ghost use mathlib.Core.Path.{_≡_};
 ghost use mathlib.Core.List.{[], _∷_, map};
 ghost use Prim.Native.Nat.{_+_, _*_, _≤_};
 ghost use lib.ListN.{length, take};
-ghost use Rattle.lines.specs.Lines.{modelWord, decimal, spaced, lineOf};
+ghost use Rattle.decimal.specs.Decimal.{decimal};
+ghost use Rattle.lines.specs.Lines.{modelWord, spaced, lineOf};
 ghost use Rattle.lines.specs.Put.{bytes, Room, Put};
 
 // Bytes: the first len of at.

@@ -62,6 +62,11 @@ placed-placed d at x y place h e =
     ∙ append-assoc (take at d) x (y ++ drop (at + length (x ++ y)) d)
     ∙ ap (_++_ (take at d)) (sym (append-assoc x y (drop (at + length (x ++ y)) d)))
 
+-- An output begins with what is placed at its start.
+pub placed-begins : (d x : List ℕ) (n : ℕ) → length x ≡ n → take n (placed d 0 x) ≡ x
+unfolding placed
+placed-begins d x n e = take-at x (drop (0 + length x) d) n e
+
 -- What is placed in a part that reaches to the end is placed in the whole.
 pub part-placed : (d : List ℕ) (start : ℕ) (x part : List ℕ) → start ≤ length d → part ≡ placed (take (length d - start) (drop start d)) 0 x
     → take start d ++ (part ++ drop (length d - start) (drop start d)) ≡ placed d start x

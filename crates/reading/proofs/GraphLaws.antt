@@ -158,6 +158,9 @@ pub place-here : (f : List ℕ) (e x : ℕ) → access (decode f) e ≡ true →
 unfolding accessAt
 place-here f e x p q l h = rw p (ap (λ (y : ℕ). eqb y l) (sym q))
 
+pub eqb-swap : (a b : ℕ) → eqb a b ≡ eqb b a
+eqb-swap a b = elim (ℕ-discrete a b) [ yes p ↦ eq-eqb a b p ∙ sym (eq-eqb b a (sym p)) | no d ↦ ne-eqb a b d ∙ sym (ne-eqb b a (λ q. d (sym q))) ]
+
 -- The row of an access is that of its location; what is no access has none.
 module _ (f : List ℕ) (located : Located f) where
   pub location-row : (e l : ℕ) → ((m : ℕ) → m < 8 → accessAt f m e ≡ eqb l m) → l < 8 → (x : Set) → x ≡ accessAt f l → x ≡ sameLocation (decode f) e
@@ -167,9 +170,6 @@ module _ (f : List ℕ) (located : Located f) where
       let is-access = and-left (access (decode f) e) (eqb (decode f .location e) l) here in
       let same = eqb-true (decode f .location e) l (and-right (access (decode f) e) (eqb (decode f .location e) l) here) in
       p ∙ fun-ext (λ b. ap (λ (c : Bool). access (decode f) b && c) (eqb-swap (decode f .location b) l) ∙ sym (rw (is-access, same)))
-    where
-      eqb-swap : (a b : ℕ) → eqb a b ≡ eqb b a
-      eqb-swap a b = elim (ℕ-discrete a b) [ yes p ↦ eq-eqb a b p ∙ sym (eq-eqb b a (sym p)) | no d ↦ ne-eqb a b d ∙ sym (ne-eqb b a (λ q. d (sym q))) ]
 
   pub location-none : (e l : ℕ) → ((m : ℕ) → m < 8 → accessAt f m e ≡ eqb l m) → 8 ≤ l → none e ≡ sameLocation (decode f) e
   unfolding accessAt

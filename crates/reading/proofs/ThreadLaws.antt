@@ -17,14 +17,14 @@ use Rattle.relation.proofs.Meaning.{Steps, one, more, and-left, and-right, or-e
 use Rattle.relation.proofs.SetLaws.{and-false, or-false}
 use Rattle.models.specs.Graph.{base}
 use Rattle.layout.specs.Layout.{events, eventByte, threads, Sized}
-use Rattle.layout.specs.Chains.{among, chain, met, fresh, allMet, onceEach, nextEvent, head, threadsSound, thread, threadsUpTo}
+use Rattle.layout.specs.Chains.{among, chain, met, fresh, allMet, onceEach, nextOf, nextEvent, head, threadsSound, thread, threadsUpTo}
 use Rattle.layout.specs.Decode.{isRecorded, isInitial, decode}
 use Rattle.reading.specs.Sets.{Line}
 use Rattle.relation.proofs.Truth.{is-false, same-test, by-test}
 use Rattle.layout.proofs.FieldLaws.{recorded-bounds, recorded-is, initial-no}
 use Rattle.layout.proofs.FieldLaws.{next-first}
 use Rattle.layout.proofs.ChainLaws.{each-at, unsound-on}
-use Rattle.layout.proofs.ChainFacts.{Ended, end, step, among-here, among-append, fresh-length, follow-positive, ended-next, ended-after, ended-end, chain-ended, met-cases}
+use Rattle.layout.proofs.ChainFacts.{Ended, end, step, among-here, among-append, fresh-length, follow-positive, ended-next, ended-at, ended-after, ended-end, chain-ended, met-cases}
 
 -- A list whose numbers are each followed by 0 or by a number behind them in the list.
 data Onward (limit : ℕ) (next : ℕ → ℕ) : List ℕ → Type 0 where
@@ -80,6 +80,10 @@ module _ (limit : ℕ) (next : ℕ → ℕ) where
             | inr q ↦ absurd (false≢true (sym (unsound-on limit next start n j h q) ∙ p))
           ]
 
+-- The chain of a thread, from the number of records and the head as they were read.
+pub length-is : (f : List ℕ) (t n x k : ℕ) → n ≡ events f → x ≡ head f t → k ≡ length (chain n (nextOf f 8 8) x) → k ≡ length (thread f t)
+length-is f t n x k e h p = p ∙ ap₂ (λ (i j : ℕ). length (chain i (nextOf f 8 8) j)) e h
+
 pub line-none : (f at : List ℕ) → Line f 0 0 at
 unfolding met
 line-none f at = record { bounded = omega arith; listed = refl }
@@ -100,17 +104,27 @@ module _ (f : List ℕ) (s : Sized f) (sound : threadsSound f ≡ true) where
   unfolding onceEach
   threads-fresh = and-left _ _ sound
 
+  -- The events of the first threads are at most as many as the records, and those of each thread are among the records.
+  pub few-events : (t : ℕ) → t ≤ threads → length (threadsUpTo f t) ≤ events f
+  few-events t h = met-length (events f) (nextEvent f) (head f) threads t h threads-fresh
+
+  thread-ended : (t : ℕ) → t < threads → Ended (events f) (nextEvent f) (head f t) (thread f t)
+  thread-ended t h = chain-ended (events f) (nextEvent f) (head f) threads t h threads-fresh
+
+  pub thread-at : (t : ℕ) → t < threads → (k : ℕ) → k < length (thread f t) → (1 ≤ getD (thread f t) k 0) × (getD (thread f t) k 0 ≤ events f)
+  thread-at t h k g = ended-at (events f) (nextEvent f) k (thread-ended t h) g
+
   pub partway-start : (t x len : ℕ) (at : List ℕ) → t < threads → Line f t len at → length at ≡ 64 → x ≡ head f t → Partway f t x len at
   unfolding met
   partway-start t x len at h line l e =
       let rest = thread f t in
       let whole : take len at ++ rest ≡ threadsUpTo f (suc t) = ap (λ (k : List ℕ). k ++ rest) (line .listed) in
-      let most = met-length (events f) (nextEvent f) (head f) threads (suc t) (omega arith) threads-fresh in
+      let most = few-events (suc t) (omega arith) in
       let front = length-take-le len at (omega (arith, line .bounded, l)) in
       let sum = sym (length-append (take len at) rest) ∙ ap length whole in
       record {
         rest = rest;
-        ended = subst (λ (y : ℕ). Ended (events f) (nextEvent f) y rest) (sym e) (chain-ended (events f) (nextEvent f) (head f) threads t h threads-fresh);
+        ended = subst (λ (y : ℕ). Ended (events f) (nextEvent f) y rest) (sym e) (thread-ended t h);
         long = l;
         room = omega (arith, most, front, sum, s .most-events);
         whole = rw (add-one t) whole;

@@ -1,13 +1,25 @@
-// The events of a file thread by thread, in one line.
+// The events of a file thread by thread: how many each has, and all of them in one line.
 
+use layout::chain;
 use layout::chain::Cursor;
+use layout::field;
 use relation::Sequence;
 ghost use mathlib.Core.Path.{_≡_};
 ghost use mathlib.Core.Bool.{true};
 ghost use Prim.Native.Nat.{_+_, _<_};
+ghost use lib.ListN.{length};
 ghost use Rattle.layout.specs.Layout.{threads, Sized};
-ghost use Rattle.layout.specs.Chains.{threadsSound};
+ghost use Rattle.layout.specs.Chains.{thread, threadsSound};
 ghost use Rattle.reading.specs.Sets.{Line};
+
+// How many events thread t has, from 0.
+pub fn length_of(file: &[u8], t: usize) -> usize
+    requires { ⌜ Sized (now file) × (t < threads) ⌝ }
+    ensures { λ r. ⌜ r ≡ length (thread (now (file .entry)) t) ⌝ }
+{
+    let n = field::events(file);
+    chain::count(file, 8, 8, n, Cursor::start(file, 4, 1, t))
+}
 
 // The line of the first t threads with the events of thread t behind it.
 pub fn along(file: &[u8], t: usize, line: Sequence) -> Sequence

@@ -17,7 +17,7 @@ use Rattle.models.specs.Graph.{base}
 use Rattle.models.specs.Rules.{first}
 use Rattle.models.proofs.FirstLaws.{positive, first-stops, first-goes-on, first-front}
 use Rattle.layout.specs.Layout.{Side, side, events, locations, links, linkByte, mostEvents, mostLinks, mostInThread, fullLength, Sized}
-use Rattle.layout.specs.Chains.{among, chain, met, fresh, pushed, onceEach, nextOf, startOf, head, nextLink, firstLink, linksInto, linksSound, allOf}
+use Rattle.layout.specs.Chains.{among, chain, met, fresh, pushed, onceEach, nextOf, startOf, thread, nextLink, firstLink, linksInto, linksSound, allOf}
 use Rattle.layout.specs.Decode.{decode}
 use Rattle.reading.specs.Readable.{within, readable, Chained, Readable}
 use Rattle.recording.specs.Causes.{rfLegal, coLegal, rmwLegal, fromRead, dataLegal, addrLegal, ctrlLegal, casdepLegal, linkLegal, linkSound, oneSource, linksSoundAt, pairedAt, tooLong, headerOver, overLimit, badThreads, badChains, badLink, headerCauses, recordCauses, linkCauses, causes, refusal}
@@ -217,11 +217,9 @@ pub threads-are : (f : List ℕ) (n : ℕ) (b : Bool) → n ≡ events f → b �
 unfolding badThreads
 threads-are f n b e p = ap not (p ∙ ap (λ (k : ℕ). onceEach k (met k (nextOf f 8 8) (startOf f 4 1) 4)) e)
 
-pub long-is : (f : List ℕ) (t n x k m : ℕ) (s : Side) → s ≡ side f → m ≡ mostInThread s → n ≡ events f → x ≡ head f t
-    → k ≡ length (chain n (nextOf f 8 8) x) → ltb m k ≡ tooLong f t
+pub long-is : (f : List ℕ) (t k m : ℕ) (s : Side) → s ≡ side f → m ≡ mostInThread s → k ≡ length (thread f t) → ltb m k ≡ tooLong f t
 unfolding tooLong
-long-is f t n x k m s q l e h p =
-    ap₂ ltb (l ∙ ap mostInThread q) (p ∙ ap₂ (λ (i j : ℕ). length (chain i (nextOf f 8 8) j)) e h)
+long-is f t k m s q l p = ap₂ ltb (l ∙ ap mostInThread q) p
 
 pub chains-are : (f : List ℕ) (n m : ℕ) (b : Bool) → n ≡ events f → m ≡ links f
     → b ≡ onceEach m (met m (nextOf f (8 + 8 * n) 4) (startOf f 15 8) n) → not b ≡ badChains f

@@ -5,10 +5,10 @@ use crate::Load;
 use crate::legal;
 use crate::links;
 use layout::chain;
-use layout::chain::Cursor;
 use layout::field;
 use layout::kind;
 use reading::graph;
+use reading::thread;
 use relation::grid;
 use relation::grid::Grid;
 use relation::row;
@@ -94,8 +94,7 @@ pub fn too_long(file: &[u8], t: usize) -> bool
     ensures { λ r. ⌜ r ≡ tooLong (now (file .entry)) t ⌝ }
 {
     let most = kind::most_in_thread(field::side(file));
-    let n = field::events(file);
-    most < chain::count(file, 8, 8, n, Cursor::start(file, 4, 1, t))
+    most < thread::length_of(file, t)
 }
 
 // Whether some thread has.

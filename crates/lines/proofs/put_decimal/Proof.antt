@@ -11,7 +11,7 @@ returns-2 : tie.Need-returns-2
 returns-2 c = put-decimal2 _ (c .before .before .before .if1 .left) (c .before .before .if2 .taken) (c .before .put2 .ensures) (c .put3 .ensures)
 
 returns-3 : tie.Need-returns-3
-returns-3 c = put-decimal3 _ (c .before .before .before .if2 .left) (c .before .before .put4 .ensures) (c .before .put5 .ensures) (c .put6 .ensures)
+returns-3 c = put-decimal3 _ (c .before .before .before .if2 .left) (search needs) (c .before .before .put4 .ensures) (c .before .put5 .ensures) (c .put6 .ensures)
 
 pub put-decimal-spec : {M : Type 1} → statement M
 put-decimal-spec =

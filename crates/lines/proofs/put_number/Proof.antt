@@ -5,7 +5,7 @@ use Rattle.lines.proofs.put_number.Statement.{statement}
 use Rattle.lines.proofs.put_number.Tie as tie
 
 returns : tie.Need-returns
-returns c = let p = put-then (c .before .put .ensures) (c .put-decimal .ensures) in (p, number-short (c .before .before .args .n) p)
+returns c = let p = put-then (c .before .put .ensures) (c .put-decimal .ensures) in (p, number-short (c .before .before .args .n) (search needs) p)
 
 pub put-number-spec : {M : Type 1} → statement M
 put-number-spec = tie.close (tie.spec (λ c κs. search needs) (λ c κs. search needs) returns)

@@ -5,17 +5,8 @@ use Rattle.recording.proofs.causes.too_long.Statement.{statement}
 use Rattle.recording.proofs.causes.too_long.Tie as tie
 
 returns : tie.Need-returns
-returns c =
-    let limit = c .before .before .before in
-    long-is _ _ _ _ _ _ _ (limit .before .side .ensures) (limit .most-in-thread .ensures) (c .before .before .events .ensures .0) (c .before .start .ensures .0) (c .count .ensures)
+returns c = long-is _ _ _ _ _ (c .before .before .side .ensures) (c .before .most-in-thread .ensures) (c .length-of .ensures)
 
 pub too-long-spec : {M : Type 1} → statement M
 too-long-spec =
-    tie.close
-    (tie.spec
-    (λ c κs. search needs)
-    (λ c κs. search needs)
-    (λ c κs. search needs)
-    (λ c κs. search needs)
-    (λ c κs. search needs)
-    returns)
+    tie.close (tie.spec (λ c κs. search needs) (λ c κs. search needs) (λ c κs. search needs) returns)

@@ -1,0 +1,3 @@
+-- Laws of numbers in decimal.
+pub mod DecimalLaws
+pub mod Examples
