@@ -1,3 +1,4 @@
 -- The laws and proofs of `judgement`.
 pub mod ChipLaws
 pub mod PrintLaws
+pub mod PageLaws

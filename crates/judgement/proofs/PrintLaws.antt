@@ -1,7 +1,7 @@
--- Laws of the lines that are printed: demand 3 of the two verdicts, and the lines by what loading answers.
+-- Laws of what is printed: demand 3 of the two verdicts, and the text by what loading answers.
 use mathlib.Core.Path.{_≡_, sym, ap, ap₂, subst, _∙_}
 use mathlib.Core.Bool.{true, false, false≢true}
-use mathlib.Core.List.{List, _++_}
+use mathlib.Core.List.{List}
 use mathlib.Core.Logic.{inl, inr}
 use Prim.Native.Nat.{ℕ, suc, _+_}
 use native.Mathlib.Omega.{arith}
@@ -19,10 +19,10 @@ use Rattle.verdict.specs.declared.Verdict.{Verdict}
 use Rattle.verdict.specs.Answer.{refuses, answers}
 use Rattle.verdict.proofs.ShownMeaning.{answers-zero}
 use Rattle.translation.specs.Translation.{translation}
-use Rattle.lines.specs.Lines.{source, chip, lineOf}
+use Rattle.lines.specs.Lines.{chip, lineOf}
 use Rattle.soundness.specs.Soundness.{immVerdict, armv8Verdict}
 use Rattle.soundness.proofs.Proved.{soundness}
-use Rattle.judgement.specs.Judgement.{OnSource, OnChip, lineFor, Prints}
+use Rattle.judgement.specs.Judgement.{OnSource, OnChip, lineFor, TextOf}
 
 -- Demand 3, for the verdicts on a source file that loads and on its translation.
 pub both-sound : (f : List ℕ) (v w : Verdict) → LoadsAs layout.source f → OnSource f v → OnChip (translation f) w → w .answer ≡ answers 0 → v .answer ≡ answers 0
@@ -32,11 +32,11 @@ both-sound f v w l on chip-on h =
     on .shown .answer ∙ ap answers (soundness f l .allowed-back allowed)
 
 -- What is printed, by what loading answered.
-module _ (f : List ℕ) (a : Load) (is : a ≡ loadOf f) where
-  pub refusal-line : (k n : ℕ) (w : Verdict) (text : List ℕ) → a ≡ Refused k → n ≡ numberOf a → w .answer ≡ refuses n → w .len ≡ 0 → text ≡ lineFor chip w
-      → Prints f text
+module _ (Source Chip : List ℕ → List ℕ → Type 0) (f : List ℕ) (a : Load) (is : a ≡ loadOf f) where
+  pub refusal-text : (k n : ℕ) (w : Verdict) (text : List ℕ) → a ≡ Refused k → n ≡ numberOf a → w .answer ≡ refuses n → w .len ≡ 0 → text ≡ lineFor chip w
+      → TextOf Source Chip f text
   unfolding loadOf answer
-  refusal-line k n w text q e says none prints =
+  refusal-text k n w text q e says none prints =
       let number : n ≡ refusal f = e ∙ ap numberOf is ∙ load-number f in
       record {
         refused = λ m z. prints ∙ ap₂ (lineOf chip) (says ∙ ap refuses (number ∙ z)) (ap (λ (j : ℕ). take j (w .at)) none);
@@ -51,30 +51,30 @@ module _ (f : List ℕ) (a : Load) (is : a ≡ loadOf f) where
           omega arith
 
   module _ (h : Header) (loaded : a ≡ Loaded h) where
-    pub source-lines : h .source ≡ true → (v w : Verdict) (first second : List ℕ) → OnSource f v → OnChip (translation f) w
-        → (w .answer ≡ answers 0 → v .answer ≡ answers 0) → first ≡ lineFor source v → second ≡ lineFor chip w → Prints f (first ++ second)
-    source-lines e v w first second on chip-on sound p q =
+    pub source-text : h .source ≡ true → (text : List ℕ) → Source f text → TextOf Source Chip f text
+    source-text e text said =
         let l = loaded-side true f a h is loaded e in
         record {
           refused = λ n u. absurd (let y : suc n ≡ 0 = sym u ∙ l .loads in omega arith);
-          on-source = λ m. record { on-source = v; on-chip = w; judged = on; judged-chip = chip-on; sound = sound; prints = ap₂ (λ (x y : List ℕ). x ++ y) p q };
+          on-source = λ m. said;
           on-chip = λ m. absurd (false≢true (sym (m .side-is) ∙ l .side-is));
         }
 
-    pub chip-line : h .source ≡ false → (w : Verdict) (text : List ℕ) → OnChip f w → text ≡ lineFor chip w → Prints f text
-    chip-line e w text on p =
+    pub chip-text : h .source ≡ false → (text : List ℕ) → Chip f text → TextOf Source Chip f text
+    chip-text e text said =
         let l = loaded-side false f a h is loaded e in
         record {
           refused = λ n u. absurd (let y : suc n ≡ 0 = sym u ∙ l .loads in omega arith);
           on-source = λ m. absurd (false≢true (sym (l .side-is) ∙ m .side-is));
-          on-chip = λ m. record { on-chip = w; judged-chip = on; prints = p };
+          on-chip = λ m. said;
         }
 
 -- What is printed of what is read of an input is what is printed of the input.
-pub prints-input : (input start text : List ℕ) → start ≡ take (longest + 1) input → Prints start text → Prints input text
-prints-input input start text read w =
+pub input-text : (Source Chip : List ℕ → List ℕ → Type 0) (input start text : List ℕ) → start ≡ take (longest + 1) input
+    → TextOf Source Chip start text → TextOf Source Chip input text
+input-text Source Chip input start text read w =
     elim (read-of input) [
-      | inl e ↦ subst (λ (f : List ℕ). Prints f text) (read ∙ e) w
+      | inl e ↦ subst (λ (f : List ℕ). TextOf Source Chip f text) (read ∙ e) w
       | inr (n, all, part) ↦ record {
         refused = λ m z. w .refused m (ap refusal read ∙ part ∙ sym all ∙ z);
         on-source = λ l. absurd (not-loaded n all (l .loads));

@@ -1,4 +1,4 @@
--- What the judge says of a file as a whole (01, "What is shown"): the verdicts, and the lines that are printed.
+-- What is said of a file as a whole: the verdicts and the lines that are printed (01, "What is shown"), and the printed page (02, slip 2).
 use mathlib.Core.Path.{_≡_}
 use mathlib.Core.List.{List, [], _++_}
 use Prim.Native.Nat.{ℕ, suc}
@@ -8,6 +8,8 @@ use Rattle.layout.specs.Decode.{decode}
 use Rattle.recording.specs.Causes.{refusal}
 use Rattle.recording.specs.Load.{LoadsAs}
 use Rattle.verdict.specs.declared.Verdict.{Verdict}
+use Rattle.verdict.specs.declared.Answer.{Answer}
+use Rattle.verdict.specs.declared.Answer.the-variants.{Refused, Allowed, Broken}
 use Rattle.verdict.specs.Answer.{refuses, answers}
 use Rattle.verdict.specs.Shown.{events}
 use Rattle.execution.specs.OnFile.{OnRecording}
@@ -15,6 +17,7 @@ use Rattle.imm.specs.Judged as imm
 use Rattle.armv8.specs.Judged as armv8
 use Rattle.translation.specs.Translation.{translation}
 use Rattle.lines.specs.Lines.{source, chip, lineOf}
+use Rattle.printout.specs.Page.{page}
 
 -- v is the IMM verdict, or the ARMv8 verdict, on the recording of a file that loads.
 abbrev pub OnSource : List ℕ → Verdict → Type 0
@@ -26,6 +29,13 @@ OnChip f v = OnRecording ARMv8 armv8.Judged (decode f) v
 -- The line of a verdict.
 abbrev pub lineFor : List ℕ → Verdict → List ℕ
 lineFor word v = lineOf word (v .answer) (events v)
+
+-- What a program prints of the file f: "A refusal prints `refused` and its number", without a model's word; of a recording that loads, what it
+-- prints of a source or of a chip recording.
+pub record TextOf (Source Chip : List ℕ → List ℕ → Type 0) (f text : List ℕ) : Type 0 where
+  pub refused : (n : ℕ) → refusal f ≡ suc n → text ≡ lineOf chip (refuses (suc n)) []
+  pub on-source : LoadsAs layout.source f → Source f text
+  pub on-chip : LoadsAs layout.chip f → Chip f text
 
 -- "Kind 1 prints a source line, then a chip line": that of its translation. Where the translation is allowed, so is the source (demand 3).
 pub record SourceLines (f text : List ℕ) : Type 0 where
@@ -42,8 +52,26 @@ pub record ChipLine (f text : List ℕ) : Type 0 where
   pub judged-chip : OnChip f on-chip
   pub prints : text ≡ lineFor chip on-chip
 
--- The text is what the judge prints of the file f. Which ring is shown is free; all else is fixed. A refusal's line has no model's word.
-pub record Prints (f text : List ℕ) : Type 0 where
-  pub refused : (n : ℕ) → refusal f ≡ suc n → text ≡ lineOf chip (refuses (suc n)) []
-  pub on-source : LoadsAs layout.source f → SourceLines f text
-  pub on-chip : LoadsAs layout.chip f → ChipLine f text
+-- The text is what the judge prints of the file f. Which ring is shown is free; all else is fixed.
+abbrev pub Prints : List ℕ → List ℕ → Type 0
+Prints = TextOf SourceLines ChipLine
+
+-- The ring of the page that is printed: "the events of a broken IMM (source) or ARMv8 (chip) verdict, empty if allowed".
+unfoldable pub ringShown : Answer → List ℕ → List ℕ
+ringShown (Refused k) shown = []
+ringShown Allowed shown = []
+ringShown (Broken k) shown = shown
+
+abbrev pub ringOf : Verdict → List ℕ
+ringOf v = ringShown (v .answer) (events v)
+
+-- The text is the page of the file f with the ring of a verdict on it.
+pub record OwnPage (On : List ℕ → Verdict → Type 0) (f text : List ℕ) : Type 0 where
+  pub verdict : Verdict
+  pub judged : On f verdict
+  pub prints : text ≡ page f (ringOf verdict)
+
+-- The text is what the program page prints of the file f: "A program prints it, or the judge's line for a refusal". Which ring a verdict
+-- shows is free; all else is fixed.
+abbrev pub PrintsPage : List ℕ → List ℕ → Type 0
+PrintsPage = TextOf (OwnPage OnSource) (OwnPage OnChip)

@@ -1,4 +1,6 @@
-// The judgement of a file as a whole: the verdict on its translation, and the lines that the judge prints.
+// The judgement of a file as a whole: the verdict on its translation, the lines that the judge prints, and the page.
+
+pub mod page;
 
 use lines::Text;
 use output::Filled;

@@ -17,11 +17,12 @@ ghost use Rattle.armv8.specs.Judged as armv8;
 ghost use Rattle.verdict.specs.Answer.{refusalOf, ruleOf};
 ghost use Rattle.output.specs.declared.Filled.the-variants.{Written};
 ghost use Rattle.translation.specs.Translation.{translation};
+ghost use Rattle.printout.specs.Page.{page};
 ghost use Rattle.probe.specs.Calls.{coded, codedAnswer, Stored, Reported, Reports, Printed};
 
 // An answer: the number of the refusal, that of the broken rule, and how many bytes were written.
 fn coded(cause: u8, rule: u8, written: usize) -> u64
-    requires { ⌜ written ≤ 1320 ⌝ }
+    requires { ⌜ written ≤ 1458 ⌝ }
     ensures { λ r. ⌜ r ≡ coded cause rule written ⌝ }
 {
     (cause as u64) + 256 * (rule as u64) + 65536 * (written as u64)
@@ -37,7 +38,7 @@ pub extern "C" fn probe_load(file: &[u8]) -> u64
 
 // The answer of a call that fills an output: its refusal, or the number of the broken rule and the length written.
 fn answered(rule: u8, filled: Filled) -> u64
-    requires { ⌜ ((n : ℕ) → filled ≡ Written n → n ≤ 1320) ⌝ }
+    requires { ⌜ ((n : ℕ) → filled ≡ Written n → n ≤ 1458) ⌝ }
     ensures { λ r. ⌜ r ≡ codedAnswer rule filled ⌝ }
 {
     match filled {
@@ -97,6 +98,16 @@ pub extern "C" fn probe_translate(file: &[u8], out: &mut [u8]) -> u64
     ensures { λ r. ⌜ Stored (causeFor source (now (file .entry))) 0 (translation (now (file .entry))) (now (out .entry)) r (now (out .exit)) ⌝ }
 {
     answered(0, translation::translate(file, out))
+}
+
+// Writes the page of a file, on which the events of the ring have a star, at most 1458 bytes, to the start of the output. The ring is any
+// list of numbers: one that no event has, and one that comes again, do nothing. Refused with a number, 1 to 10, 13 or 12, the output stays as
+// it was.
+#[no_mangle]
+pub extern "C" fn probe_page(file: &[u8], ring: &[u8], out: &mut [u8]) -> u64
+    ensures { λ r. ⌜ Stored (refusal (now (file .entry))) 0 (page (now (file .entry)) (now (ring .entry))) (now (out .entry)) r (now (out .exit)) ⌝ }
+{
+    answered(0, printout::page(file, ring, out))
 }
 
 // Writes the lines that the judge prints of a file, at most 640 bytes, to the start of the output. Refused with 12 where the output is

@@ -4,7 +4,7 @@ use native.Mathlib.Omega.{arith}
 use lib.ListN.{length}
 use lib.Seq.{length-take-le}
 use Rattle.recording.proofs.Longest.{read-longest}
-use Rattle.judgement.proofs.PrintLaws.{prints-input}
+use Rattle.judgement.proofs.PrintLaws.{input-text}
 use borrow.Author.Needs.{needs}
 use Rattle.judgement.proofs.of_input.Statement.{statement}
 use Rattle.judgement.proofs.of_input.Tie as tie
@@ -19,7 +19,7 @@ returns : tie.Need-returns
 returns c =
     let t = c .before .before in
     let long : length (t .args .t1) ≡ 1413 = search needs in
-    (λ input read. prints-input _ _ _ (read-longest input (t .args .t1) (t .args .n) long read) (c .printed .ensures .0), c .printed .ensures .1)
+    (λ input read. input-text _ _ _ _ _ (read-longest input (t .args .t1) (t .args .n) long read) (c .printed .ensures .0), c .printed .ensures .1)
 
 pub of-input-spec : {M : Type 1} → statement M
 of-input-spec =

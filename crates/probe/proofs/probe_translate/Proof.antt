@@ -1,4 +1,5 @@
 -- `probe_translate` meets its contract: the answer as a number.
+use native.Mathlib.Omega.{arith}
 use Rattle.translation.proofs.TranslationCall.{few-written}
 use Rattle.probe.proofs.ProbeLaws.{stored}
 use borrow.Author.Needs.{needs}
@@ -6,7 +7,7 @@ use Rattle.probe.proofs.probe_translate.Statement.{statement}
 use Rattle.probe.proofs.probe_translate.Tie as tie
 
 answered-requires : tie.Need-answered-requires
-answered-requires c κs = few-written _ _ _ _ (c .before .before .translate .ensures)
+answered-requires c κs n q = omega (arith, few-written _ _ _ _ (c .before .before .translate .ensures) n q)
 
 returns : tie.Need-returns
 returns c = stored _ _ _ _ _ _ _ (c .before .before .before .translate .ensures) (c .answered .ensures)

@@ -1,0 +1,3 @@
+-- The definitions that the contracts of `printout` cite.
+pub mod Page
+pub mod Table
