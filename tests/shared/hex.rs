@@ -1,4 +1,4 @@
-//! Files as lines of hexadecimal digits. A module of the oracle, the batch driver and the benchmark.
+//! Files, and rings behind them, as lines of hexadecimal digits. A module of the oracle, the batch driver and the benchmark.
 
 pub fn to_hex(file: &[u8]) -> String {
     file.iter().map(|b| format!("{b:02x}")).collect()
@@ -12,4 +12,10 @@ pub fn from_hex(line: &str) -> Option<Vec<u8>> {
         return None;
     }
     Some(digits.chunks(2).map(|d| (16 * d[0] + d[1]) as u8).collect())
+}
+
+/// The bytes of a line FILE<TAB>RING, or nothing if it is none.
+pub fn with_ring(line: &str) -> Option<(Vec<u8>, Vec<u8>)> {
+    let (file, ring) = line.split_once('\t')?;
+    Some((from_hex(file)?, from_hex(ring)?))
 }

@@ -4,11 +4,14 @@ use crate::draft::Draft;
 use crate::random::Random;
 use crate::recording::*;
 
-/// Gives reads and writes small values, at times values that need both bytes.
+/// Values around the limits of a byte, and around those of each number of decimal digits.
+const WIDE: [u16; 14] = [0, 1, 9, 10, 99, 100, 255, 256, 257, 999, 1000, 9999, 10000, 65535];
+
+/// Gives reads and writes small values, at times values that need both bytes and up to five digits.
 pub fn values(random: &mut Random, draft: &mut Draft) {
     let wide = random.chance(15);
     for e in draft.events.iter_mut().filter(|e| e.class != FENCE) {
-        e.value = if wide { random.pick(&[0, 1, 255, 256, 257, 65535]) } else { random.below(4) as u16 };
+        e.value = if wide { random.pick(&WIDE) } else { random.below(4) as u16 };
     }
 }
 

@@ -17,11 +17,14 @@ mod generate_syncs;
 mod handmade;
 #[path = "../../shared/hex.rs"]
 mod hex;
+mod lent_rings;
 mod litmus;
 mod models;
+mod page;
 #[path = "../../shared/random.rs"]
 mod random;
 mod reach;
+mod reach_pages;
 mod recording;
 mod relation;
 mod rules;
@@ -30,9 +33,10 @@ mod shaped;
 mod shown;
 mod translation;
 mod worked;
+mod worked_pages;
 
 use handmade::{bytes, outcome};
-use hex::{from_hex, to_hex};
+use hex::{from_hex, to_hex, with_ring};
 use std::io::{self, BufRead, BufWriter, Write};
 use std::process::exit;
 
@@ -40,8 +44,10 @@ const USAGE: &str = "usage: oracle COMMAND
   answer             files in, what the judge prints out
   translate          files in, the translation's bytes or `refused K` out
   load               files in, `loads` or `refused K` out
+  page               lines FILE<TAB>RING in, the page's bytes or `refused K` out
   check              lines FILE<TAB>ANSWER in, differences out; status 1 if there are any
   generate SEED N    N random files
+  rings SEED         files in, lines FILE<TAB>RING out, with random rings
   boundary           lines NAME<TAB>FILE<TAB>EXPECTED
   litmus             lines NAME<TAB>FILE<TAB>ANSWER
   demand3 SEED N     demand 3 on N random source recordings
@@ -56,13 +62,12 @@ fn main() {
     let mut out = BufWriter::new(io::stdout().lock());
     let written = match words[..] {
         ["answer"] => each_file(&mut out, shown::answer),
-        ["translate"] => each_file(&mut out, |file| match translation::translate(file) {
-            Ok(chip) => to_hex(&chip),
-            Err(cause) => outcome(cause),
-        }),
+        ["translate"] => each_file(&mut out, |file| written_or_refused(translation::translate(file))),
         ["load"] => each_file(&mut out, |file| outcome(recording::load(file).err().unwrap_or(0))),
+        ["page"] => pages(&mut out),
         ["check"] => check(&mut out),
         ["generate", seed, count] => generate(&mut out, number(seed), number(count)),
+        ["rings", seed] => rings(&mut out, number(seed)),
         ["boundary"] => boundary::cases()
             .iter()
             .try_for_each(|c| writeln!(out, "{}\t{}\t{}", c.name, to_hex(&c.file), outcome(c.expected))),
@@ -103,6 +108,11 @@ fn file_of(line: &str) -> Vec<u8> {
     })
 }
 
+/// Bytes in hexadecimal, or `refused K`.
+fn written_or_refused(result: Result<Vec<u8>, u8>) -> String {
+    result.map_or_else(outcome, |bytes| to_hex(&bytes))
+}
+
 fn lines() -> impl Iterator<Item = String> {
     io::stdin().lock().lines().map(|line| line.expect("standard input is text"))
 }
@@ -119,6 +129,28 @@ fn generate(out: &mut impl Write, seed: u64, count: u64) -> io::Result<()> {
     let mut random = random::Random::new(seed);
     for _ in 0..count {
         writeln!(out, "{}", to_hex(&damage::any_file(&mut random)))?;
+    }
+    Ok(())
+}
+
+/// Writes a page for each line of a file and a ring.
+fn pages(out: &mut impl Write) -> io::Result<()> {
+    for line in lines() {
+        let Some((file, ring)) = with_ring(&line) else {
+            eprintln!("not a file and a ring: {line}");
+            exit(2);
+        };
+        writeln!(out, "{}", written_or_refused(page::page(&file, &ring)))?;
+    }
+    Ok(())
+}
+
+/// Draws a ring for each file line of the input.
+fn rings(out: &mut impl Write, seed: u64) -> io::Result<()> {
+    let mut random = random::Random::new(seed);
+    for line in lines() {
+        let ring = lent_rings::draw(&mut random, &file_of(&line));
+        writeln!(out, "{line}\t{}", to_hex(&ring))?;
     }
     Ok(())
 }

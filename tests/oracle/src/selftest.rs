@@ -1,5 +1,5 @@
-//! The oracle's own tests: boundary files, litmus rows, worked examples, operators, its own answers,
-//! and what generated files reach.
+//! The oracle's own tests: boundary files, litmus rows, worked examples, pages, operators, its own answers,
+//! and what generated files and rings reach.
 
 use crate::boundary;
 use crate::boundary_threads::{pairs, translated_pairs};
@@ -7,13 +7,16 @@ use crate::damage::any_file;
 use crate::handmade::{bytes, outcome};
 use crate::hex::to_hex;
 use crate::litmus;
+use crate::page::page;
 use crate::random::Random;
 use crate::reach::{self, Reach};
+use crate::reach_pages::{of_pages, PageReach, SORTS};
 use crate::recording::{load, CHIP, SOURCE};
 use crate::relation::*;
 use crate::shown::{answer, fault};
 use crate::translation::translate;
 use crate::worked;
+use crate::worked_pages::PAGES;
 
 struct Tally {
     passed: usize,
@@ -67,11 +70,26 @@ pub fn run() -> bool {
     }
     let chip = translate(&bytes(worked::TRANSLATION_TO));
     tally.test("a chip file is not translated", chip == Err(11), || format!("{chip:?}"));
+    pages(&mut tally);
     operators(&mut tally);
     own_answers(&mut tally);
     generated_files(&mut tally);
+    generated_pages(&mut tally);
     println!("{} passed, {} failed", tally.passed, tally.failed);
     tally.failed == 0
+}
+
+/// Pages against those written by hand; and a file that does not load has the refusal of loading, with any ring.
+fn pages(tally: &mut Tally) {
+    for case in PAGES {
+        let wanted: String = case.lines.iter().map(|line| format!("{line}\n")).collect();
+        let got = page(&bytes(case.file), case.ring).map(|page| String::from_utf8_lossy(&page).into_owned());
+        tally.test(case.name, got.as_ref() == Ok(&wanted), || format!("{got:?}"));
+    }
+    for case in boundary::cases() {
+        let got = page(&case.file, &case.file).err().unwrap_or(0);
+        tally.test(&case.name, got == case.expected, || format!("page {}: {}", outcome(got), to_hex(&case.file)));
+    }
 }
 
 /// The operators against their definitions, pair by pair, on random relations among a few numbers.
@@ -150,4 +168,17 @@ fn generated_files(tally: &mut Tally) {
     }
     let outcomes = reach::of_files(&mut random, 20_000);
     tally.test("every outcome arises", outcomes == (0..=10).chain([13]).collect(), || format!("{outcomes:?}"));
+}
+
+/// Pages of drawn recordings reach every length and all that a column can hold; the rings drawn for them are of every sort.
+fn generated_pages(tally: &mut Tally) {
+    let mut random = Random::new(4);
+    for kind in [SOURCE, CHIP] {
+        let (reached, sorts) = of_pages(&mut random, kind, 10_000);
+        let wanted = PageReach::limits(kind);
+        tally.test("pages reach the limits", reached == wanted, || format!("kind {kind}: {reached:?}"));
+        for (name, _) in SORTS {
+            tally.test("drawn rings", sorts.contains(name), || format!("kind {kind}: never {name}"));
+        }
+    }
 }
