@@ -1,9 +1,10 @@
-//! Calls that fill an output, which is lent between guard bytes.
+//! Calls that fill an output, which is lent between guard bytes. What they read is lent as a copy.
 
-pub type Call = unsafe extern "C" fn(*const u8, usize, *mut u8, usize) -> u64;
+pub type OfFile = unsafe extern "C" fn(*const u8, usize, *mut u8, usize) -> u64;
+pub type OfRing = unsafe extern "C" fn(*const u8, usize, *const u8, usize, *mut u8, usize) -> u64;
 
 const GUARD: usize = 64;
-pub const MOST: usize = 1400;
+pub const MOST: usize = 1500;
 
 /// An answer taken apart, and the bytes that were written.
 #[derive(Clone, PartialEq)]
@@ -18,12 +19,41 @@ fn wrong(what: &str) -> Answer {
     Answer { refusal: 0, rule: 0, bytes: what.as_bytes().to_vec() }
 }
 
+/// A call with what it reads: a file, or a file and a ring.
+#[derive(Clone, Copy)]
+pub enum Call<'a> {
+    OfFile(OfFile, &'a [u8]),
+    OfRing(OfRing, &'a [u8], &'a [u8]),
+}
+
+impl Call<'_> {
+    /// Its answer with `room` bytes of an output that has as many; nothing where it changed what it reads.
+    fn answer(self, out: *mut u8, room: usize) -> Option<u64> {
+        // SAFETY: the pointers and lengths are those of copies and of an output that lie apart.
+        match self {
+            Call::OfFile(call, file) => reading(file, |at| unsafe { call(at, file.len(), out, room) }),
+            Call::OfRing(call, file, ring) => reading(file, |file_at| {
+                reading(ring, |at| unsafe { call(file_at, file.len(), at, ring.len(), out, room) })
+            })
+            .flatten(),
+        }
+    }
+}
+
+/// What a call on a copy of bytes answers; nothing where the copy was changed.
+fn reading<T>(bytes: &[u8], call: impl FnOnce(*const u8) -> T) -> Option<T> {
+    let mut copy = bytes.to_vec();
+    let answer = call(copy.as_mut_ptr());
+    (copy == bytes).then_some(answer)
+}
+
 /// Lends `room` bytes of a filled buffer to a call. All bytes but those written must stay.
-pub fn lent(call: Call, file: &[u8], room: usize) -> Answer {
+pub fn lent(call: Call, room: usize) -> Answer {
     let fill = |at: usize| (at * 37 + 11) as u8;
     let mut buffer: Vec<u8> = (0..GUARD + MOST + GUARD).map(fill).collect();
-    // SAFETY: the pointers and lengths are those of slices; the second lies within the buffer.
-    let answer = unsafe { call(file.as_ptr(), file.len(), buffer[GUARD..].as_mut_ptr(), room) };
+    let Some(answer) = call.answer(buffer[GUARD..].as_mut_ptr(), room) else {
+        return wrong("changed what it reads");
+    };
     let (refusal, rule, written) = (answer % 256, answer / 256 % 256, (answer / 65536) as usize);
     let end = GUARD + written;
     let stays = |at: usize| buffer[at] == fill(at);
@@ -37,13 +67,13 @@ pub fn lent(call: Call, file: &[u8], room: usize) -> Answer {
 }
 
 /// The answer at full room, which must be the same at exactly the room that it needs; with one byte less it is refused with 12.
-pub fn at_each_room(call: Call, file: &[u8]) -> Answer {
-    let answer = lent(call, file, MOST);
+pub fn at_each_room(call: Call) -> Answer {
+    let answer = lent(call, MOST);
     let need = answer.bytes.len();
-    if lent(call, file, need) != answer {
+    if lent(call, need) != answer {
         return wrong("differs at the room that it needs");
     }
-    if need > 0 && lent(call, file, need - 1) != (Answer { refusal: 12, rule: 0, bytes: Vec::new() }) {
+    if need > 0 && lent(call, need - 1) != (Answer { refusal: 12, rule: 0, bytes: Vec::new() }) {
         return wrong("differs with a byte less");
     }
     answer

@@ -1,10 +1,12 @@
 //! The batch driver over the probe's static library.
 //!
-//!     batch load | translate | translate-rooms | judge | judge-rooms | verdicts-rooms < FILES
+//!     batch load | translate | translate-rooms | judge | judge-rooms | verdicts-rooms | own-ring < FILES
+//!     batch page | page-rooms < FILES_AND_RINGS
 //!
-//! reads one file a line in hexadecimal (an empty line is the empty file) and writes one answer a line:
-//! `load` writes `loads` or `refused K`, `translate` the translation in hexadecimal or `refused K`,
+//! reads one file a line in hexadecimal (an empty line is the empty file), for a page FILE<TAB>RING, and writes one answer a line:
+//! `load` writes `loads` or `refused K`, `translate` the translation in hexadecimal or `refused K`, `page` the same of the page,
 //! `judge` what the judge prints, with `;` for a line feed, and `verdicts` the same, made of what the calls for the verdicts answer.
+//! `own-ring` writes FILE<TAB>RING: the events of a broken verdict of the file's own kind, none if it is allowed or refused.
 //! Every output lies between guard bytes. With `-rooms` it is lent three times: longer than the answer, as long, and one byte shorter.
 
 #[path = "../../shared/hex.rs"]
@@ -12,15 +14,19 @@ mod hex;
 mod lent;
 mod verdicts;
 
-use hex::{from_hex, to_hex};
-use lent::{at_each_room, lent, Answer, MOST};
+use hex::{from_hex, to_hex, with_ring};
+use lent::{at_each_room, lent, Answer, Call, MOST};
 use std::io::{self, BufRead, BufWriter, Write};
 use std::process::exit;
+
+const USAGE: &str = "usage: batch load | translate | translate-rooms | judge | judge-rooms | verdicts-rooms | own-ring < FILES
+       batch page | page-rooms < FILES_AND_RINGS";
 
 extern "C" {
     fn probe_load(file: *const u8, len: usize) -> u64;
     fn probe_translate(file: *const u8, len: usize, out: *mut u8, room: usize) -> u64;
     fn probe_judge(file: *const u8, len: usize, out: *mut u8, room: usize) -> u64;
+    fn probe_page(file: *const u8, len: usize, ring: *const u8, count: usize, out: *mut u8, room: usize) -> u64;
 }
 
 fn load(file: &[u8]) -> String {
@@ -31,11 +37,12 @@ fn load(file: &[u8]) -> String {
     }
 }
 
-fn translation(answer: Answer) -> String {
+/// The bytes of a translation or a page.
+fn written(answer: Answer) -> String {
     match (answer.refusal, answer.rule) {
         (0, 0) => to_hex(&answer.bytes),
         (cause, 0) => format!("refused {cause}"),
-        (_, rule) => format!("broken rule {rule} of a translation"),
+        (_, rule) => format!("broken rule {rule} where there is none"),
     }
 }
 
@@ -46,28 +53,50 @@ fn lines(answer: Answer) -> String {
     }
 }
 
-fn main() -> io::Result<()> {
-    let word = std::env::args().nth(1).unwrap_or_default();
-    let answer: fn(&[u8]) -> String = match word.as_str() {
-        "load" => load,
-        "translate" => |file| translation(lent(probe_translate, file, MOST)),
-        "translate-rooms" => |file| translation(at_each_room(probe_translate, file)),
-        "judge" => |file| lines(lent(probe_judge, file, MOST)),
-        "judge-rooms" => |file| lines(at_each_room(probe_judge, file)),
-        "verdicts-rooms" => verdicts::lines,
-        _ => {
-            eprintln!("usage: batch load | translate | translate-rooms | judge | judge-rooms | verdicts-rooms < FILES");
-            exit(2);
+/// What the driver does for a word: its answer to a file, or to a file and a ring.
+enum Word {
+    OfFile(fn(&[u8]) -> String),
+    OfRing(fn(&[u8], &[u8]) -> String),
+}
+
+fn named(word: &str) -> Option<Word> {
+    Some(match word {
+        "load" => Word::OfFile(load),
+        "translate" => Word::OfFile(|file| written(lent(Call::OfFile(probe_translate, file), MOST))),
+        "translate-rooms" => Word::OfFile(|file| written(at_each_room(Call::OfFile(probe_translate, file)))),
+        "judge" => Word::OfFile(|file| lines(lent(Call::OfFile(probe_judge, file), MOST))),
+        "judge-rooms" => Word::OfFile(|file| lines(at_each_room(Call::OfFile(probe_judge, file)))),
+        "verdicts-rooms" => Word::OfFile(verdicts::lines),
+        "own-ring" => Word::OfFile(|file| format!("{}\t{}", to_hex(file), to_hex(&verdicts::own_ring(file)))),
+        "page" => Word::OfRing(|file, ring| written(lent(Call::OfRing(probe_page, file, ring), MOST))),
+        "page-rooms" => Word::OfRing(|file, ring| written(at_each_room(Call::OfRing(probe_page, file, ring)))),
+        _ => return None,
+    })
+}
+
+impl Word {
+    /// The answer to a line, or nothing if the line is not as the word needs it.
+    fn answer(&self, line: &str) -> Option<String> {
+        match self {
+            Word::OfFile(answer) => from_hex(line).map(|file| answer(&file)),
+            Word::OfRing(answer) => with_ring(line).map(|(file, ring)| answer(&file, &ring)),
         }
+    }
+}
+
+fn main() -> io::Result<()> {
+    let Some(word) = named(&std::env::args().nth(1).unwrap_or_default()) else {
+        eprintln!("{USAGE}");
+        exit(2);
     };
     let mut out = BufWriter::new(io::stdout().lock());
     for line in io::stdin().lock().lines() {
         let line = line?;
-        let Some(file) = from_hex(&line) else {
+        let Some(answer) = word.answer(&line) else {
             eprintln!("no hexadecimal line: {line}");
             exit(2);
         };
-        writeln!(out, "{}", answer(&file))?;
+        writeln!(out, "{answer}")?;
     }
     out.flush()
 }

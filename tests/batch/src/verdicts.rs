@@ -1,6 +1,6 @@
-//! The judge's lines, made of what the calls for the verdicts answer.
+//! The judge's lines and the ring of a file, made of what the calls for the verdicts answer.
 
-use crate::lent::{at_each_room, Answer};
+use crate::lent::{at_each_room, lent, Answer, Call, MOST};
 use crate::probe_translate;
 
 extern "C" {
@@ -19,8 +19,8 @@ fn line(model: &str, verdict: &Answer) -> String {
 
 /// The lines of a source file whose IMM verdict is given.
 fn source_lines(file: &[u8], imm: &Answer) -> String {
-    let chip = at_each_room(probe_translate, file).bytes;
-    let armv8 = at_each_room(probe_armv8, &chip);
+    let chip = at_each_room(Call::OfFile(probe_translate, file)).bytes;
+    let armv8 = at_each_room(Call::OfFile(probe_armv8, &chip));
     match armv8.refusal {
         0 => line("source", imm) + &line("chip", &armv8),
         cause => format!("translation refused {cause}"),
@@ -29,11 +29,18 @@ fn source_lines(file: &[u8], imm: &Answer) -> String {
 
 /// A file that loads is refused with 11 by the verdict of the other kind; one that does not load has one number in both.
 pub fn lines(file: &[u8]) -> String {
-    let (imm, armv8) = (at_each_room(probe_imm, file), at_each_room(probe_armv8, file));
+    let [imm, armv8] = [probe_imm, probe_armv8].map(|verdict| at_each_room(Call::OfFile(verdict, file)));
     match (imm.refusal, armv8.refusal) {
         (0, 11) => source_lines(file, &imm),
         (11, 0) => line("chip", &armv8),
         (cause @ (1..=10 | 13), same) if cause == same => format!("refused {cause};"),
         (cause, other) => format!("refused {cause} and {other}"),
     }
+}
+
+/// The events of a broken verdict of the file's own kind; none where it is allowed or the file is refused.
+/// The verdict of the other kind is refused and names no rule.
+pub fn own_ring(file: &[u8]) -> Vec<u8> {
+    let verdicts = [probe_imm, probe_armv8].map(|verdict| lent(Call::OfFile(verdict, file), MOST));
+    verdicts.into_iter().find(|verdict| verdict.rule != 0).map_or(Vec::new(), |verdict| verdict.bytes)
 }
