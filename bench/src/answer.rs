@@ -1,10 +1,10 @@
 //! The plain implementation's answers as text, for comparison with the oracle: `;` stands for a line feed.
 
-use crate::calls::{refusal, rule, written, Function, ROOM};
+use crate::calls::{refusal, rule, written, ROOM};
 use crate::hex::to_hex;
 use crate::plain;
 
-fn bytes_of(call: Function, file: &[u8]) -> (u64, Vec<u8>) {
+fn bytes_of(call: impl Fn(&[u8], &mut [u8]) -> u64, file: &[u8]) -> (u64, Vec<u8>) {
     let mut out = [0; ROOM];
     let answer = call(file, &mut out);
     (answer, out[..written(answer)].to_vec())
@@ -18,13 +18,22 @@ pub fn load(file: &[u8]) -> String {
     }
 }
 
-/// The translation in hexadecimal or `refused K`.
-pub fn translate(file: &[u8]) -> String {
-    let (answer, bytes) = bytes_of(plain::translate, file);
+/// Bytes in hexadecimal or `refused K`.
+fn bytes_or_refusal((answer, bytes): (u64, Vec<u8>)) -> String {
     match refusal(answer) {
         0 => to_hex(&bytes),
         cause => format!("refused {cause}"),
     }
+}
+
+/// The translation in hexadecimal or `refused K`.
+pub fn translate(file: &[u8]) -> String {
+    bytes_or_refusal(bytes_of(plain::translate, file))
+}
+
+/// The page in hexadecimal or `refused K`.
+pub fn page(file: &[u8], ring: &[u8]) -> String {
+    bytes_or_refusal(bytes_of(|file, out| plain::page(file, ring, out), file))
 }
 
 /// What the judge prints.

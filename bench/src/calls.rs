@@ -1,4 +1,4 @@
-//! The five calls, each in the library and in the plain implementation, and the parts of their answers.
+//! The six calls, each in the library and in the plain implementation, and the parts of their answers.
 
 use crate::{library, plain};
 
@@ -17,10 +17,29 @@ pub const ARMV8: Call = Call { name: "armv8", library: library::armv8, plain: pl
 pub const TRANSLATE: Call = Call { name: "translate", library: library::translate, plain: plain::translate };
 pub const JUDGE: Call = Call { name: "judge", library: library::judge, plain: plain::judge };
 
-pub const CALLS: [Call; 5] = [LOAD, IMM, ARMV8, TRANSLATE, JUDGE];
+/// The page with a ring of a few events, as a verdict shows one.
+pub const PAGE: Call = Call {
+    name: "page",
+    library: |file, out| library::page(file, heads(file), out),
+    plain: |file, out| plain::page(file, heads(file), out),
+};
+
+/// The page with a ring of anything: the file's own bytes.
+pub const PAGE_OF_BYTES: Call = Call {
+    name: "page with the file for a ring",
+    library: |file, out| library::page(file, file, out),
+    plain: |file, out| plain::page(file, file, out),
+};
+
+pub const CALLS: [Call; 6] = [LOAD, IMM, ARMV8, TRANSLATE, JUDGE, PAGE];
+
+/// The first events of the threads, as they stand in a file; none of a file without them.
+fn heads(file: &[u8]) -> &[u8] {
+    file.get(4..8).unwrap_or_default()
+}
 
 /// More bytes than any call writes.
-pub const ROOM: usize = 1400;
+pub const ROOM: usize = 1500;
 
 pub fn refusal(answer: u64) -> u8 {
     answer as u8

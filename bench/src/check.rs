@@ -1,6 +1,6 @@
 //! Whether the library and the plain implementation answer a file alike and write the same bytes.
 
-use crate::calls::{written, Call, Function, CALLS, ROOM};
+use crate::calls::{written, Call, Function, CALLS, PAGE_OF_BYTES, ROOM};
 
 const GUARD: usize = 64;
 
@@ -29,5 +29,5 @@ fn call_differs(call: &Call, file: &[u8]) -> Option<String> {
 
 /// What differs on a file, or nothing.
 pub fn differs(file: &[u8]) -> Option<String> {
-    CALLS.iter().find_map(|call| call_differs(call, file))
+    CALLS.iter().chain([&PAGE_OF_BYTES]).find_map(|call| call_differs(call, file))
 }

@@ -6,6 +6,7 @@ extern "C" {
     fn probe_armv8(file: *const u8, length: usize, out: *mut u8, room: usize) -> u64;
     fn probe_translate(file: *const u8, length: usize, out: *mut u8, room: usize) -> u64;
     fn probe_judge(file: *const u8, length: usize, out: *mut u8, room: usize) -> u64;
+    fn probe_page(file: *const u8, length: usize, ring: *const u8, count: usize, out: *mut u8, room: usize) -> u64;
 }
 
 type Writes = unsafe extern "C" fn(*const u8, usize, *mut u8, usize) -> u64;
@@ -34,4 +35,9 @@ pub fn translate(file: &[u8], out: &mut [u8]) -> u64 {
 
 pub fn judge(file: &[u8], out: &mut [u8]) -> u64 {
     with_output(probe_judge, file, out)
+}
+
+pub fn page(file: &[u8], ring: &[u8], out: &mut [u8]) -> u64 {
+    // SAFETY: the pointers and lengths are those of three slices, of which the third is lent for writing and so lies apart.
+    unsafe { probe_page(file.as_ptr(), file.len(), ring.as_ptr(), ring.len(), out.as_mut_ptr(), out.len()) }
 }

@@ -1,5 +1,5 @@
 //! The benchmark of the probe's library beside a plain implementation of the same calls.
-//! Files come as lines of hexadecimal digits; an empty line is the empty file.
+//! Files come as lines of hexadecimal digits, with a ring FILE<TAB>RING; an empty line is the empty file.
 
 mod answer;
 mod calls;
@@ -22,7 +22,8 @@ const USAGE: &str = "usage: bench COMMAND
   inputs                        the table's files, as lines GROUP<TAB>CALL<TAB>FILE
   one GROUP CALL REPEATS        the library alone, so many times on each file of a row
   check < FILES                 the library against the plain implementation; ends in `N passed, M failed`
-  answer WORD < FILES           the plain implementation's answers; WORD is load, translate, judge or verdicts";
+  answer WORD < FILES           the plain implementation's answers; WORD is load, translate, judge or verdicts
+  answer page < FILES_AND_RINGS the same of pages";
 
 /// `check` prints this many differences.
 const MOST_SHOWN: usize = 10;
@@ -35,10 +36,11 @@ fn main() {
         ["inputs"] => table::list(),
         ["one", group, call, repeats] => table::one(group, call, repeats),
         ["check"] => check_files(),
-        ["answer", "load"] => each_file(answer::load),
-        ["answer", "translate"] => each_file(answer::translate),
-        ["answer", "judge"] => each_file(answer::judge),
-        ["answer", "verdicts"] => each_file(answer::verdicts),
+        ["answer", "load"] => answers(files().map(|file| answer::load(&file))),
+        ["answer", "translate"] => answers(files().map(|file| answer::translate(&file))),
+        ["answer", "judge"] => answers(files().map(|file| answer::judge(&file))),
+        ["answer", "verdicts"] => answers(files().map(|file| answer::verdicts(&file))),
+        ["answer", "page"] => answers(decoded(hex::with_ring).map(|(file, ring)| answer::page(&file, &ring))),
         _ => {
             eprintln!("{USAGE}");
             exit(2);
@@ -50,21 +52,25 @@ fn main() {
     }
 }
 
-/// The files of the standard input.
-fn files() -> impl Iterator<Item = Vec<u8>> {
-    io::stdin().lock().lines().map(|line| {
+/// What the lines of the standard input hold.
+fn decoded<T>(decode: fn(&str) -> Option<T>) -> impl Iterator<Item = T> {
+    io::stdin().lock().lines().map(move |line| {
         let line = line.expect("standard input is text");
-        hex::from_hex(&line).unwrap_or_else(|| {
+        decode(&line).unwrap_or_else(|| {
             eprintln!("not hexadecimal: {line}");
             exit(2)
         })
     })
 }
 
-fn each_file(answer: fn(&[u8]) -> String) -> io::Result<()> {
+fn files() -> impl Iterator<Item = Vec<u8>> {
+    decoded(hex::from_hex)
+}
+
+fn answers(lines: impl Iterator<Item = String>) -> io::Result<()> {
     let mut out = BufWriter::new(io::stdout().lock());
-    for file in files() {
-        writeln!(out, "{}", answer(&file))?;
+    for line in lines {
+        writeln!(out, "{line}")?;
     }
     out.flush()
 }

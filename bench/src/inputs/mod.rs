@@ -6,7 +6,7 @@ mod draft;
 mod litmus;
 mod recordings;
 
-use crate::calls::{refusal, rule, written, Call, Function, ARMV8, CALLS, IMM, JUDGE, LOAD, ROOM, TRANSLATE};
+use crate::calls::{refusal, rule, written, Call, Function, ARMV8, CALLS, IMM, JUDGE, LOAD, PAGE, ROOM, TRANSLATE};
 use crate::plain;
 use crate::plain::recording::{CHIP, SOURCE};
 use crate::random::Random;
@@ -52,6 +52,7 @@ fn source_rows(rows: &mut Vec<Row>, group: &str, files: &[File]) {
     add(rows, group, TRANSLATE, files.to_vec());
     add(rows, group, ARMV8, files.iter().map(|file| translation(file)).collect());
     add(rows, group, JUDGE, files.to_vec());
+    add(rows, group, PAGE, files.to_vec());
 }
 
 fn translation(file: &[u8]) -> File {
@@ -68,7 +69,7 @@ fn sized_rows(rows: &mut Vec<Row>, kind: u8) {
     if kind == SOURCE {
         source_rows(rows, name, &all);
     } else {
-        for call in [LOAD, ARMV8, JUDGE] {
+        for call in [LOAD, ARMV8, JUDGE, PAGE] {
             add(rows, name, call, all.clone());
         }
     }

@@ -6,6 +6,7 @@ mod armv8;
 mod execution;
 mod imm;
 mod lines;
+mod page;
 pub mod recording;
 mod relation;
 mod translation;
@@ -46,12 +47,7 @@ pub fn translate(file: &[u8], out: &mut [u8]) -> u64 {
         Err(cause) => return refused(cause),
     };
     let chip = translation::translate(&loaded.recording);
-    let size = translation::size(&chip);
-    if out.len() < size {
-        return refused(12);
-    }
-    translation::write(&chip, &mut out[..size]);
-    answer(0, 0, size)
+    filled(0, translation::size(&chip), out, |start| translation::write(&chip, start))
 }
 
 pub fn judge(file: &[u8], out: &mut [u8]) -> u64 {
@@ -67,6 +63,15 @@ pub fn judge(file: &[u8], out: &mut [u8]) -> u64 {
         }
     }
     written(0, text.bytes(), out)
+}
+
+pub fn page(file: &[u8], ring: &[u8], out: &mut [u8]) -> u64 {
+    match recording::load(file) {
+        Err(cause) => refused(cause),
+        Ok(Loaded { recording, .. }) => {
+            filled(0, page::size(&recording), out, |start| page::write(&recording, ring, start))
+        }
+    }
 }
 
 /// Loads a file of one kind.
@@ -97,9 +102,14 @@ fn translated(source: &Loaded) -> Loaded {
 
 /// Writes bytes to the start of the output, or refuses with 12 where it is shorter.
 fn written(rule: u8, bytes: &[u8], out: &mut [u8]) -> u64 {
-    if out.len() < bytes.len() {
+    filled(rule, bytes.len(), out, |start| start.copy_from_slice(bytes))
+}
+
+/// Has so many bytes written at the start of the output, or refuses with 12 where it is shorter.
+fn filled(rule: u8, size: usize, out: &mut [u8], write: impl FnOnce(&mut [u8])) -> u64 {
+    if out.len() < size {
         return refused(12);
     }
-    out[..bytes.len()].copy_from_slice(bytes);
-    answer(0, rule, bytes.len())
+    write(&mut out[..size]);
+    answer(0, rule, size)
 }
