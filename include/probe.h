@@ -4,8 +4,8 @@
  * allocates, reads or writes outside what it is lent, or fails to return, whatever the file holds; each is proved to answer as said
  * here (crates/probe/src/lib.rt). The library has no state and may be called from several threads. Its archive is for x86-64 only.
  *
- * A pointer and the length behind it lend that many bytes. They must be readable (file) or writable (out), the two must not overlap,
- * and a pointer must not be null, even where its length is 0.
+ * A pointer and the length behind it lend that many bytes. They must be readable (file, ring) or writable (out). out must not overlap
+ * the others; file and ring, which are only read, may overlap. A pointer must not be null, even where its length is 0.
  *
  * Every answer has one form:
  *   PROBE_REFUSAL(answer)  0, or the number of the cause that refused the call (below); then the other parts are 0
@@ -50,6 +50,7 @@ enum {
 #define PROBE_MOST_EVENTS 64u        /* for probe_imm and probe_armv8 */
 #define PROBE_MOST_TRANSLATION 1320u /* for probe_translate */
 #define PROBE_MOST_LINES 640u        /* for probe_judge */
+#define PROBE_MOST_PAGE 1458u        /* for probe_page */
 
 /* A file that loads has at most so many bytes. */
 #define PROBE_MOST_FILE 1412u
@@ -77,6 +78,23 @@ probe_answer probe_translate(const uint8_t *file, size_t length, uint8_t *out, s
 /* The lines that the program judge prints of the file: of a source file a line for it and one for its translation, of a chip file one,
  * of a refused file the line `refused` and the number. Each ends in a line feed; there is no 0 behind them. Refusal 12 only. */
 probe_answer probe_judge(const uint8_t *file, size_t length, uint8_t *out, size_t room);
+
+/* The printed page of a file of either kind, with a star at each event of the ring. Refusals 1 to 10 and 13, then 12; never 11.
+ * Line k has four blocks of 20 columns, one for each thread, with the k-th event of its chain, or spaces where the thread has fewer.
+ * It ends in a line feed, 81 bytes in all, and nothing is trimmed. There are as many lines as the longest thread has events, at most
+ * 18: a file without events has a page of 0 bytes, which any room is enough for. There is no 0 behind the page. A block has in columns
+ *   1 and 2   the event's number, right-aligned
+ *   4         R, W or F: a read, a write or a fence
+ *   5, 6      the digits of its mode and its flag
+ *   8         the digit of its location; a fence has a space
+ *   10 to 14  its value in decimal, right-aligned; a fence has spaces
+ *   16        a star, where the event is of the ring
+ * and spaces in the others.
+ * The ring is `count` bytes, any number of any bytes: an event has a star where its number is among them. Bytes that are no number of a
+ * recorded event, as 0 and the initial writes' 56 and up, do nothing, and neither do repeats nor the order.
+ * To star what broke a rule, pass the events that probe_imm (source) or probe_armv8 (chip) wrote where PROBE_RULE of its answer is not 0.
+ * Where it is 0, pass none, with count 0: an allowed verdict shows all events. */
+probe_answer probe_page(const uint8_t *file, size_t length, const uint8_t *ring, size_t count, uint8_t *out, size_t room);
 
 #ifdef __cplusplus
 }
