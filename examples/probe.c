@@ -3,6 +3,7 @@
  *     probe verdict FILE             the verdict on a recording, by IMM (source) or ARMv8 (chip), and the events shown
  *     probe translate FILE OUT       writes the translation of a source recording
  *     probe judge FILE               the lines that the program judge prints
+ *     probe page FILE                the printed page, with a star at each event of a broken verdict
  *
  * Exit status: 0 allowed or done, 1 broken, 2 refused, 3 misuse, or a file that cannot be read or written. */
 #include "probe.h"
@@ -12,7 +13,8 @@
 
 /* A file that loads has at most PROBE_MOST_FILE bytes: one byte more is enough to know that a file is too long. */
 static uint8_t file[PROBE_MOST_FILE + 1];
-static uint8_t out[PROBE_MOST_TRANSLATION];
+static uint8_t events[PROBE_MOST_EVENTS];
+static uint8_t out[PROBE_MOST_PAGE]; /* the largest of the outputs */
 
 static int refused(probe_answer answer)
 {
@@ -35,14 +37,29 @@ static int printed(int status)
     return status;
 }
 
+/* Prints what a call wrote to out. */
+static int print(probe_answer answer)
+{
+    fwrite(out, 1, PROBE_LENGTH(answer), stdout);
+    return printed(0);
+}
+
+/* The verdict of the model for the file's kind, which is named, with the events that are shown. */
+static probe_answer ask(size_t length, const char **model)
+{
+    *model = "IMM";
+    probe_answer answer = probe_imm(file, length, events, sizeof events);
+    if (PROBE_REFUSAL(answer) == PROBE_OTHER_KIND) {
+        *model = "ARMv8";
+        answer = probe_armv8(file, length, events, sizeof events);
+    }
+    return answer;
+}
+
 static int verdict(size_t length)
 {
-    const char *model = "IMM";
-    probe_answer answer = probe_imm(file, length, out, sizeof out);
-    if (PROBE_REFUSAL(answer) == PROBE_OTHER_KIND) {
-        model = "ARMv8";
-        answer = probe_armv8(file, length, out, sizeof out);
-    }
+    const char *model;
+    probe_answer answer = ask(length, &model);
     if (PROBE_REFUSAL(answer) != 0)
         return refused(answer);
     unsigned rule = PROBE_RULE(answer);
@@ -51,7 +68,7 @@ static int verdict(size_t length)
     else
         printf("rule %u of %s is broken:", rule, model);
     for (size_t i = 0; i < PROBE_LENGTH(answer); i++)
-        printf(" %u", out[i]);
+        printf(" %u", events[i]);
     printf("\n");
     return printed(rule != 0);
 }
@@ -72,9 +89,17 @@ static int translate(size_t length, const char *name)
 
 static int judge(size_t length)
 {
-    probe_answer answer = probe_judge(file, length, out, sizeof out);
-    fwrite(out, 1, PROBE_LENGTH(answer), stdout);
-    return printed(0);
+    return print(probe_judge(file, length, out, sizeof out));
+}
+
+/* An allowed verdict stars nothing. A refused file has no verdict, and probe_page refuses it by the same number. */
+static int page(size_t length)
+{
+    const char *model;
+    probe_answer answer = ask(length, &model);
+    size_t count = PROBE_RULE(answer) != 0 ? PROBE_LENGTH(answer) : 0;
+    answer = probe_page(file, length, events, count, out, sizeof out);
+    return PROBE_REFUSAL(answer) != 0 ? refused(answer) : print(answer);
 }
 
 /* Reads a file, and answers whether it could be read. */
@@ -95,14 +120,17 @@ static int read_file(const char *name, size_t *length)
 
 int main(int count, char **words)
 {
+    static const struct {
+        const char *word;
+        int (*run)(size_t length);
+    } printing[] = {{"verdict", verdict}, {"judge", judge}, {"page", page}};
     const char *word = count > 1 ? words[1] : "";
     size_t length = 0;
-    if (count == 3 && strcmp(word, "verdict") == 0)
-        return read_file(words[2], &length) ? verdict(length) : 3;
+    for (size_t i = 0; i < sizeof printing / sizeof printing[0]; i++)
+        if (count == 3 && strcmp(word, printing[i].word) == 0)
+            return read_file(words[2], &length) ? printing[i].run(length) : 3;
     if (count == 4 && strcmp(word, "translate") == 0)
         return read_file(words[2], &length) ? translate(length, words[3]) : 3;
-    if (count == 3 && strcmp(word, "judge") == 0)
-        return read_file(words[2], &length) ? judge(length) : 3;
-    fprintf(stderr, "usage: probe verdict FILE | translate FILE OUT | judge FILE\n");
+    fprintf(stderr, "usage: probe verdict FILE | translate FILE OUT | judge FILE | page FILE\n");
     return 3;
 }
