@@ -1,5 +1,5 @@
 /* Calls every function of the library from C, on recordings written out by hand, and compares answers and outputs.
- * File and output each lie against a forbidden page, once at their end and once at their start, between guard bytes (lend.h);
+ * File, ring and output each lie against a forbidden page, once at their end and once at their start, between guard bytes (lend.h);
  * every output is lent longer than it need be, as long, a byte shorter, and empty. */
 #include "lend.h"
 #include "probe.h"
@@ -8,6 +8,9 @@
 #include <string.h>
 
 typedef probe_answer (*call)(const uint8_t *, size_t, uint8_t *, size_t);
+
+#define EVENTS(...) ((const uint8_t[]){__VA_ARGS__})
+#define SIZED(file) file, sizeof file
 
 static int passed, failed;
 
@@ -78,6 +81,27 @@ static void prints(const char *name, const uint8_t *file, size_t length, const c
     at_each_room(probe_judge, name, file, length, coded(0, 0, strlen(lines)), (const uint8_t *)lines);
 }
 
+/* The ring that is lent to probe_page, by which it has the form of the other calls. */
+static struct lent ring;
+
+static probe_answer page(const uint8_t *file, size_t length, uint8_t *out, size_t room)
+{
+    return probe_page(file, length, ring.at, ring.length, out, room);
+}
+
+/* probe_page with a ring at each end of its pages, at each room. */
+static void page_with(const char *name, const uint8_t *file, size_t length, const uint8_t *events, size_t count, probe_answer answer,
+                      const char *text)
+{
+    for (int first = 0; first < 2; first++) {
+        ring = lend(count, first);
+        memcpy(ring.at, events, count);
+        at_each_room(page, name, file, length, answer, (const uint8_t *)text);
+        expect(memcmp(ring.at, events, count) == 0 && lent_stays(&ring, count), name, "the ring was written to");
+        lent_back(&ring);
+    }
+}
+
 /* A file that no call but probe_judge takes. */
 static void refused_by_all(const char *name, const uint8_t *file, size_t length, unsigned cause)
 {
@@ -87,11 +111,102 @@ static void refused_by_all(const char *name, const uint8_t *file, size_t length,
     refused(probe_imm, name, file, length, cause);
     refused(probe_armv8, name, file, length, cause);
     refused(probe_translate, name, file, length, cause);
+    page_with(name, file, length, EVENTS(1, 2), 2, coded(cause, 0, 0), NULL);
     prints(name, file, length, line);
 }
 
-#define EVENTS(...) ((const uint8_t[]){__VA_ARGS__})
-#define SIZED(file) file, sizeof file
+/* A recording with a ring, and its page. */
+struct printout {
+    const char *name;
+    const uint8_t *file;
+    size_t length;
+    size_t count;
+    const uint8_t *ring;
+    const char *page;
+};
+
+/* Lengths of rings that a number of one byte, or of two, does not hold. */
+static const size_t long_rings[] = {256, 257, 65536, 65537};
+
+/* The page with the ring, with the ring at the end of longer ones, and, without its stars, with the empty ring. */
+static void printout(const struct printout *p)
+{
+    static uint8_t longer[65537];
+    char plain[PROBE_MOST_PAGE + 1];
+    probe_answer answer = coded(0, 0, strlen(p->page));
+    page_with(p->name, p->file, p->length, p->ring, p->count, answer, p->page);
+    for (size_t i = 0; i < sizeof long_rings / sizeof long_rings[0]; i++) {
+        memset(longer, 0, sizeof longer);
+        memcpy(longer + long_rings[i] - p->count, p->ring, p->count);
+        page_with(p->name, p->file, p->length, longer, long_rings[i], answer, p->page);
+    }
+    strcpy(plain, p->page);
+    for (char *star = plain; (star = strchr(star, '*')) != NULL;)
+        *star = ' ';
+    page_with(p->name, p->file, p->length, p->ring, 0, answer, plain);
+}
+
+#define BLOCK 20u
+#define BLOCKS 4u
+#define LINE (BLOCKS * BLOCK + 1u)
+#define STAR 15u /* the column of the star in a block, from 0 */
+_Static_assert(PROBE_MOST_PAGE == 18 * LINE, "a page has at most 18 lines");
+
+/* Where the block of each event stands in a page, and how many bytes the page has. */
+static size_t find_blocks(const uint8_t *file, size_t places[256])
+{
+    size_t size = 0;
+    for (size_t thread = 0; thread < BLOCKS; thread++) {
+        size_t line = 0;
+        for (unsigned event = file[4 + thread]; event != 0; event = file[8 * event])
+            places[event] = LINE * line++ + BLOCK * thread;
+        if (size < LINE * line)
+            size = LINE * line;
+    }
+    return size;
+}
+
+/* Whether a page has each event's number at its place, and spaces in every other block. */
+static int blocks_stand(const char *text, size_t size, const size_t places[256], unsigned events)
+{
+    char rest[PROBE_MOST_PAGE], number[16];
+    memcpy(rest, text, size);
+    for (unsigned event = 1; event <= events; event++) {
+        snprintf(number, sizeof number, "%2u ", event);
+        if (memcmp(text + places[event], number, 3) != 0)
+            return 0;
+        memset(rest + places[event], ' ', BLOCK);
+    }
+    for (size_t at = 0; at < size; at++)
+        if (rest[at] != (at % LINE == LINE - 1 ? '\n' : ' '))
+            return 0;
+    return 1;
+}
+
+/* Of a recording that loads: every event has its block, a ring of one byte gives a star to that event and changes nothing else, and a
+ * ring may lie in the file. */
+static void stars(const char *name, const uint8_t *file, size_t length)
+{
+    char plain[PROBE_MOST_PAGE], wanted[PROBE_MOST_PAGE], got[PROBE_MOST_PAGE];
+    size_t places[256], size = find_blocks(file, places);
+    probe_answer answer = probe_page(file, length, file, 0, (uint8_t *)plain, sizeof plain);
+    expect(answer == coded(0, 0, size) && blocks_stand(plain, size, places, file[1]), name, "blocks at other places");
+    expect(memchr(plain, '*', size) == NULL, name, "a star without a ring");
+    for (unsigned event = 0; event < 256; event++) {
+        uint8_t number = (uint8_t)event;
+        memcpy(wanted, plain, size);
+        if (1 <= event && event <= file[1])
+            wanted[places[event] + STAR] = '*';
+        answer = probe_page(file, length, &number, 1, (uint8_t *)got, sizeof got);
+        expect(answer == coded(0, 0, size) && memcmp(got, wanted, size) == 0, name, "other than one star for a ring of one byte");
+    }
+    memcpy(wanted, plain, size);
+    for (unsigned event = 1; event <= file[1]; event++)
+        if (memchr(file, (int)event, length) != NULL)
+            wanted[places[event] + STAR] = '*';
+    answer = probe_page(file, length, file, length, (uint8_t *)got, sizeof got);
+    expect(answer == coded(0, 0, size) && memcmp(got, wanted, size) == 0, name, "other stars for the file as a ring");
+}
 
 /* A source file with its IMM verdict, its translation, the ARMv8 verdict on that, and its lines. */
 struct source {
@@ -117,12 +232,14 @@ static void source(const struct source *s)
     refused(probe_armv8, s->name, s->file, s->length, PROBE_OTHER_KIND);
     at_each_room(probe_translate, s->name, s->file, s->length, coded(0, 0, s->chip_length), s->chip);
     prints(s->name, s->file, s->length, s->lines);
+    stars(s->name, s->file, s->length);
 
     loads(s->name, s->chip, s->chip_length, 0);
     refused(probe_imm, s->name, s->chip, s->chip_length, PROBE_OTHER_KIND);
     refused(probe_translate, s->name, s->chip, s->chip_length, PROBE_OTHER_KIND);
     at_each_room(probe_armv8, s->name, s->chip, s->chip_length, coded(0, s->chip_rule, s->chip_shown), s->chip_events);
     prints(s->name, s->chip, s->chip_length, line);
+    stars(s->name, s->chip, s->chip_length);
 }
 
 #include "recordings.h"
@@ -133,6 +250,9 @@ int main(void)
         source(&sources[i]);
     for (size_t i = 0; i < sizeof refusals / sizeof refusals[0]; i++)
         refused_by_all(refusals[i].name, refusals[i].file, refusals[i].length, refusals[i].cause);
+    for (size_t i = 0; i < sizeof printouts / sizeof printouts[0]; i++)
+        printout(&printouts[i]);
+    stars("every form of a block", SIZED(forms));
     printf("%d passed, %d failed\n", passed, failed);
     return failed != 0 || passed == 0;
 }

@@ -1,6 +1,6 @@
 /* Recordings written out by hand: header, event records, link records, a line each. The source files with what is expected of them,
- * then files for each cause of refusal, in the order of the causes. The rings shown are the only ones of their length, and the library
- * shows a shortest one. */
+ * then files for each cause of refusal, in the order of the causes, and pages. The rings shown are the only ones of their length, and the
+ * library shows a shortest one. */
 
 /* worked example */
 static const uint8_t worked[] = {
@@ -215,6 +215,25 @@ static const uint8_t empty_chip[] = {
     2, 0, 0, 0, 0, 0, 0, 0,
 };
 
+/* every form of a block: threads of 4, 0, 1 and 7 events whose numbers are in no order, every mode of a source file, both flags, the first
+ * and the last location, values of one to five digits */
+static const uint8_t forms[] = {
+    1, 12, 8, 1, 3, 0, 2, 11,
+    12, 1, 1, 0, 7, 255, 255, 0,
+    0, 3, 3, 0, 0, 0, 0, 0,
+    1, 2, 2, 0, 0, 7, 0, 0,
+    5, 1, 1, 1, 3, 255, 0, 0,
+    6, 2, 2, 1, 3, 0, 1, 1,
+    7, 3, 1, 0, 0, 0, 0, 0,
+    8, 3, 2, 0, 0, 0, 0, 0,
+    9, 3, 4, 0, 0, 0, 0, 0,
+    0, 1, 0, 0, 1, 16, 39, 0,
+    0, 2, 0, 0, 2, 232, 3, 0,
+    4, 1, 0, 1, 5, 99, 0, 0,
+    10, 2, 0, 0, 6, 15, 39, 0,
+    0, 3, 4, 0,
+};
+
 /* under 8 bytes */
 static const uint8_t refused_1[] = {
     1, 0, 0, 0, 0, 0, 0,
@@ -415,4 +434,45 @@ static const struct {
     {"link of type 8", SIZED(refused_8), 8},
     {"two writes each co-before the other", SIZED(refused_9), 9},
     {"strong write without rmw", SIZED(refused_10), 10},
+};
+
+#define BLANK "                    "
+
+static const struct printout printouts[] = {
+    {"store buffering with SC fences", SIZED(buffering), 2, EVENTS(2, 5),
+     " 1 W00 0     1      " " 4 W00 1     1      " BLANK BLANK "\n"
+     " 2 F40         *    " " 5 F40         *    " BLANK BLANK "\n"
+     " 3 R00 1     0      " " 6 R00 0     0      " BLANK BLANK "\n"},
+    {"its translation", SIZED(buffering_chip), 4, EVENTS(1, 3, 4, 6),
+     " 1 W00 0     1 *    " " 4 W00 1     1 *    " BLANK BLANK "\n"
+     " 2 F60              " " 5 F60              " BLANK BLANK "\n"
+     " 3 R00 1     0 *    " " 6 R00 0     0 *    " BLANK BLANK "\n"},
+    {"every form of a block, with a ring that holds much else", SIZED(forms), 12, EVENTS(255, 0, 9, 12, 13, 2, 12, 55, 56, 63, 64, 128),
+     " 3 W20 0     7      " BLANK " 2 F30         *    " "11 R01 5    99      \n"
+     " 1 R10 7 65535      " BLANK BLANK                  " 4 R11 3   255      \n"
+     "12 W00 6  9999 *    " BLANK BLANK                  " 5 W21 3   256      \n"
+     "10 W00 2  1000      " BLANK BLANK                  " 6 F10              \n"
+     BLANK                  BLANK BLANK                  " 7 F20              \n"
+     BLANK                  BLANK BLANK                  " 8 F40              \n"
+     BLANK                  BLANK BLANK                  " 9 R00 1 10000 *    \n"},
+    {"six strong pairs, translated: the longest page", SIZED(six_pairs_chip), 3, EVENTS(18, 9, 10),
+     BLANK BLANK " 1 R01 0     0      " BLANK "\n"
+     BLANK BLANK " 2 W00 0     1      " BLANK "\n"
+     BLANK BLANK "13 F50              " BLANK "\n"
+     BLANK BLANK " 3 R01 1     0      " BLANK "\n"
+     BLANK BLANK " 4 W00 1     1      " BLANK "\n"
+     BLANK BLANK "14 F50              " BLANK "\n"
+     BLANK BLANK " 5 R01 2     0      " BLANK "\n"
+     BLANK BLANK " 6 W00 2     1      " BLANK "\n"
+     BLANK BLANK "15 F50              " BLANK "\n"
+     BLANK BLANK " 7 R01 3     0      " BLANK "\n"
+     BLANK BLANK " 8 W00 3     1      " BLANK "\n"
+     BLANK BLANK "16 F50              " BLANK "\n"
+     BLANK BLANK " 9 R01 4     0 *    " BLANK "\n"
+     BLANK BLANK "10 W00 4     1 *    " BLANK "\n"
+     BLANK BLANK "17 F50              " BLANK "\n"
+     BLANK BLANK "11 R01 5     0      " BLANK "\n"
+     BLANK BLANK "12 W00 5     1      " BLANK "\n"
+     BLANK BLANK "18 F50         *    " BLANK "\n"},
+    {"empty recording", SIZED(empty), 2, EVENTS(1, 2), ""},
 };

@@ -29,6 +29,7 @@ static void imm(const struct file *f) { probe_imm(f->bytes, f->length, out, size
 static void armv8(const struct file *f) { probe_armv8(f->bytes, f->length, out, sizeof out); }
 static void translate(const struct file *f) { probe_translate(f->bytes, f->length, out, sizeof out); }
 static void judge(const struct file *f) { probe_judge(f->bytes, f->length, out, sizeof out); }
+static void page(const struct file *f) { probe_page(f->bytes, f->length, f->bytes, f->length, out, sizeof out); } /* the ring is the file */
 
 static void (*current)(const struct file *);
 
@@ -81,7 +82,8 @@ int main(void)
     static const struct {
         const char *name;
         void (*call)(const struct file *);
-    } calls[] = {{"probe_load", load}, {"probe_imm", imm}, {"probe_armv8", armv8}, {"probe_translate", translate}, {"probe_judge", judge}};
+    } calls[] = {{"probe_load", load},           {"probe_imm", imm},     {"probe_armv8", armv8},
+                 {"probe_translate", translate}, {"probe_judge", judge}, {"probe_page", page}};
     int passed = 0, failed = 0;
     read_files();
     size_t before = used(nothing);
