@@ -1,5 +1,6 @@
-# What the scripts judge and translate share: they read recordings, and prove, build and run a program of this repository.
-# A script that sources this has set root, the repository's folder, and name, the program's name, which starts its messages.
+# What the scripts judge, page and translate share: they read recordings, and prove, build and run a program of this repository.
+# A script that sources this has set root, the repository's folder, and name, the program's name, which starts its messages. It has a
+# function usage that prints its help.
 
 work=$(mktemp -d)
 trap 'rm -rf "$work"' EXIT
@@ -14,6 +15,22 @@ fail() {
 
 # The reason that a command gave for its failure, from the message it left in the file said.
 reason() { sed 's/.*: //' "$work/said"; }
+
+# misuse MESSAGE: says the message and the usage, and ends the script.
+misuse() {
+  say "$1"
+  usage >&2
+  exit 2
+}
+
+# Prints the help that was asked for, and ends the script.
+show_help() {
+  usage 2>"$work/said" || fail 3 "standard output cannot be written: $(reason)"
+  exit
+}
+
+# no_option WORD: ends the script, as there are no options but those that it knows.
+no_option() { misuse "there is no option $1; a file of this name is ./$1"; }
 
 # must_be_readable FILE: ends with status 2 where FILE, or standard input for -, cannot be read.
 must_be_readable() {
@@ -81,4 +98,47 @@ prove() {
     fail 1 "the program is not proved and built; above is the end of what 'rt check $name' printed"
   fi
   [ ! -e "$work/proved" ] || say "ready"
+}
+
+# run_on COPY LEAST: the program on a copy of a file; its output, at least LEAST bytes, goes to the file out. It failed where it wrote to
+# standard error, since its status does not say so.
+run_on() {
+  local status=0
+  "$root/target/bin/$name" <"$1" >"$work/out" 2>"$work/error" || status=$?
+  cat "$work/error" >&2
+  [ "$status" -eq 0 ] && [ ! -s "$work/error" ] && [ "$(wc -c <"$work/out")" -ge "$2" ]
+}
+
+# show FILE NUMBER: what the program printed of FILE, byte for byte; where the number of files is over 1, its name before it.
+show() {
+  if [ "$2" -gt 1 ]; then printf '%s:\n' "$1" || return; fi
+  cat "$work/out"
+}
+
+# print_each LEAST WORD..: a script whose words are files alone: prints what the program says of each, at least LEAST bytes.
+print_each() {
+  local least=$1 file dashes=0 number=0
+  shift
+  case ${1-} in
+    -h | --help) show_help ;;
+    --) shift ;;
+    -?*) no_option "$1" ;;
+  esac
+  [ $# -gt 0 ] || { usage >&2; exit 2; }
+  for file in "$@"; do
+    must_be_readable "$file"
+    [ "$file" != - ] || dashes=$((dashes + 1))
+  done
+  [ "$dashes" -le 1 ] || fail 2 "- is standard input, which can be given once"
+  for file in "$@"; do
+    number=$((number + 1))
+    take "$file" "$work/$number"
+  done
+  prove
+  number=0
+  for file in "$@"; do
+    number=$((number + 1))
+    run_on "$work/$number" "$least" || fail 1 "$file: the program failed"
+    show "$file" $# 2>"$work/said" || fail 3 "standard output cannot be written: $(reason)"
+  done
 }
