@@ -23,9 +23,16 @@ misuse() {
   exit 2
 }
 
+# unwritten STATUS: a command that wrote to standard output failed; ends the script. Where it ended by SIGPIPE, as the reader left, so
+# does the script, and says nothing.
+unwritten() {
+  [ "$1" -ne 141 ] || kill -PIPE $$
+  fail 3 "standard output cannot be written: $(reason)"
+}
+
 # Prints the help that was asked for, and ends the script.
 show_help() {
-  usage 2>"$work/said" || fail 3 "standard output cannot be written: $(reason)"
+  usage 2>"$work/said" || unwritten $?
   exit
 }
 
@@ -139,6 +146,6 @@ print_each() {
   for file in "$@"; do
     number=$((number + 1))
     run_on "$work/$number" "$least" || fail 1 "$file: the program failed"
-    show "$file" $# 2>"$work/said" || fail 3 "standard output cannot be written: $(reason)"
+    show "$file" $# 2>"$work/said" || unwritten $?
   done
 }
