@@ -89,7 +89,7 @@ static probe_answer page(const uint8_t *file, size_t length, uint8_t *out, size_
     return probe_page(file, length, ring.at, ring.length, out, room);
 }
 
-/* probe_page with a ring at each end of its pages, at each room. */
+/* probe_page with a ring that lies against a forbidden page, once at its end and once at its start, at each room. */
 static void page_with(const char *name, const uint8_t *file, size_t length, const uint8_t *events, size_t count, probe_answer answer,
                       const char *text)
 {
