@@ -3,3 +3,4 @@ pub mod BlockLaws
 pub mod TableLaws
 pub mod PageLaws
 pub mod PageCall
+pub mod Examples

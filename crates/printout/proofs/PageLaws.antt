@@ -1,6 +1,5 @@
 -- Laws of a page: its blocks and lines one behind the other, and its length.
-use mathlib.Core.Path.{_≡_, refl, sym, ap, ap₂, _∙_}
-use mathlib.Core.Bool.{Bool, true, false}
+use mathlib.Core.Path.{_≡_, refl, sym, ap, _∙_}
 use mathlib.Core.List.{List, [], _∷_, _++_, append-assoc, append-nil}
 use Prim.Native.Nat.{ℕ, zero, suc, _+_, _*_, _<_, _≤_}
 use native.Mathlib.Numerals.{add-one}
@@ -9,14 +8,13 @@ use native.Mathlib.Decide.{decLt, ℕ-discrete}
 use borrow.Author.Tests.{lt-ltb, le-ltb}
 use lib.ListN.{length, getD, length-append}
 use Rattle.models.specs.Recording.{Recording}
-use Rattle.layout.specs.Layout.{events, threads}
+use Rattle.layout.specs.Layout.{threads}
 use Rattle.layout.specs.Chains.{thread}
 use Rattle.layout.specs.Decode.{decode}
 use Rattle.recording.specs.Causes.{refusal}
 use Rattle.recording.proofs.Accepted.{sized}
 use Rattle.output.specs.Output.{placed}
 use Rattle.output.proofs.OutputLaws.{placed-nil, length-placed, placed-placed}
-use Rattle.decimal.proofs.DecimalLaws.{columns2}
 use Rattle.decimal.specs.Decimal.{spaces}
 use Rattle.printout.specs.Page.{blockWidth, lineSize, place, block, blockAt, blocks, line, lines, longest, pageOf, threadLists, page}
 use Rattle.printout.specs.Table.{Members}

@@ -1,12 +1,12 @@
 -- Laws of the table of a file's threads: where each begins, the event at a place, and the longest.
 use mathlib.Core.Path.{_≡_, refl, sym, ap, ap₂, subst, _∙_}
-use mathlib.Core.List.{List, [], _∷_, _++_, append-assoc}
+use mathlib.Core.List.{List, [], _∷_, _++_}
 use Prim.Native.Nat.{ℕ, zero, suc, _+_, _-_, _<_, _≤_, max}
 use native.Mathlib.Nat.{max-comm}
 use native.Mathlib.Numerals.{add-one}
 use native.Mathlib.Omega.{arith}
 use native.Mathlib.Decide.{ℕ-discrete}
-use lib.ListN.{length, getD, take, set, length-set, length-append, length-take, List·getD-append}
+use lib.ListN.{length, getD, set, length-set, length-append, length-take, List·getD-append}
 use lib.Seq.{getD-set-same, getD-set-other, getD-take, getD-append-add}
 use Rattle.layout.specs.Layout.{side, events, threads}
 use Rattle.layout.specs.Chains.{met, thread, threadsUpTo}
@@ -97,8 +97,13 @@ few-lines f loads = upto threads (omega arith)
     upto : (t : ℕ) → t ≤ threads → longest (threadLists f t) ≤ 18
     upto zero h = omega (arith, longest-none f)
     upto (suc t) h =
-        omega (arith, longest-more f (longest (threadLists f t)) (length (thread f t)) t refl refl, ap (λ (k : ℕ). longest (threadLists f k)) (add-one t),
-        upto t (omega arith), few-in-thread f loads t h)
+        omega (
+          arith,
+          longest-more f (longest (threadLists f t)) (length (thread f t)) t refl refl,
+          ap (λ (k : ℕ). longest (threadLists f k)) (add-one t),
+          upto t (omega arith),
+          few-in-thread f loads t h,
+        )
 
 -- Thread t within the line of the first n.
 upto-grows : (f : List ℕ) (t n : ℕ) → t ≤ n → length (threadsUpTo f t) ≤ length (threadsUpTo f n)

@@ -13,7 +13,7 @@ ghost use Rattle.output.specs.Output.{Fills};
 ghost use Rattle.printout.specs.Page.{page};
 
 // A page has at most so many bytes: 18 lines.
-pub const MOST: usize = 1458;
+pub const MOST: usize = 18 * write::LINE;
 
 // Writes the page of a file, on which the events of the ring have a star, to the start of the output. Refused with 1 to 10 or 13 as loading
 // does, with 12 where the output is shorter than the page; a refusal leaves the output as it was.

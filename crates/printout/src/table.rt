@@ -11,12 +11,15 @@ ghost use Rattle.printout.specs.Table.{Starts};
 // A page has as many blocks side by side as a file has threads.
 pub const BLOCKS: usize = 4;
 
+// The starts of all threads, and the end.
+pub const STARTS: usize = BLOCKS + 1;
+
 // Where the events of thread t begin in the line of all threads, at place t; at the last place, where all end.
-pub fn starts(file: &[u8]) -> [u8; 5]
+pub fn starts(file: &[u8]) -> [u8; STARTS]
     requires { ⌜ refusal (now file) ≡ 0 ⌝ }
     ensures { λ r. ⌜ Starts (now (file .entry)) r threads ⌝ }
 {
-    let mut r = [0u8; 5];
+    let mut r = [0u8; STARTS];
     let mut n: usize = 0;
     let mut t: usize = 0;
     while t < BLOCKS {

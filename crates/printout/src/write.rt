@@ -3,6 +3,7 @@
 use crate::block;
 use crate::block::WIDTH;
 use crate::table::BLOCKS;
+use crate::table::STARTS;
 use relation::row::Row;
 ghost use mathlib.Core.Path.{_≡_};
 ghost use mathlib.Core.List.{List};
@@ -17,14 +18,14 @@ ghost use Rattle.printout.specs.Page.{blockAt, line, lines, threadLists,
 ghost use Rattle.printout.specs.Table.{Members, Table};
 
 // The bytes of a line: its blocks and a line feed.
-pub const LINE: usize = 81;
+pub const LINE: usize = WIDTH * BLOCKS + 1;
 
 // The block of thread t in line k, from 0.
 fn block_at(
     file: &[u8],
     stars: Row,
     at: [u8; 64],
-    starts: [u8; 5],
+    starts: [u8; STARTS],
     t: usize,
     k: usize,
 ) -> [u8; WIDTH]
@@ -39,7 +40,7 @@ fn block_at(
 }
 
 // Writes line k behind those before it.
-fn line(out: &mut [u8], file: &[u8], stars: Row, at: [u8; 64], starts: [u8; 5], k: usize)
+fn line(out: &mut [u8], file: &[u8], stars: Row, at: [u8; 64], starts: [u8; STARTS], k: usize)
     requires { ⌜ (refusal (now file) ≡ 0) × Table (now file) at starts × (k < 18) × (lineSize threads * (k + 1) ≤ length (now out)) ⌝ }
     ensures long { λ _. ⌜ length (now (out .exit)) ≡ length (now (out .entry)) ⌝ }
     ensures line { λ _. ⌜ ((ring : List ℕ) → Members ring stars → now (out .exit) ≡ placed (now (out .entry)) (lineSize threads * k) (line (decode (now (file .entry))) ring k (threadLists (now (file .entry)) threads))) ⌝ }
@@ -54,7 +55,7 @@ fn line(out: &mut [u8], file: &[u8], stars: Row, at: [u8; 64], starts: [u8; 5], 
 }
 
 // Writes the first n lines.
-pub fn lines(out: &mut [u8], file: &[u8], stars: Row, at: [u8; 64], starts: [u8; 5], n: usize)
+pub fn lines(out: &mut [u8], file: &[u8], stars: Row, at: [u8; 64], starts: [u8; STARTS], n: usize)
     requires { ⌜ (refusal (now file) ≡ 0) × Table (now file) at starts × (n ≤ 18) × (lineSize threads * n ≤ length (now out)) ⌝ }
     ensures { λ _. ⌜ ((ring : List ℕ) → Members ring stars → now (out .exit) ≡ placed (now (out .entry)) 0 (lines (decode (now (file .entry))) ring n (threadLists (now (file .entry)) threads))) ⌝ }
 {

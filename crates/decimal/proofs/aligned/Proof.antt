@@ -1,5 +1,5 @@
 -- `aligned` meets its contract, column by column.
-use mathlib.Core.Path.{sym, _∙_}
+use mathlib.Core.Path.{sym}
 use Rattle.decimal.proofs.DecimalLaws.{columns5}
 use borrow.Author.Needs.{needs}
 use Rattle.decimal.proofs.aligned.Statement.{statement}

@@ -16,8 +16,7 @@ lines-requires c κs =
     let at = c .before .before in
     let starts = at .before in
     let room = starts .before .before in
-    let counted = room .before in
-    (
+    let counted = room .before in (
       counted .before .before .before .before .pre,
       record { len = _; line = at .line .ensures; begins = starts .starts .ensures },
       counted .longest .ensures .1,

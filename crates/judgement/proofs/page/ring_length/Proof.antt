@@ -1,9 +1,8 @@
 -- `page::ring_length` meets its contract, by the answer.
-use mathlib.Core.Path.{_≡_, refl, sym, ap}
-use mathlib.Core.List.{List, []}
+use mathlib.Core.Path.{_≡_, sym, ap}
+use mathlib.Core.List.{List}
 use Prim.Native.Nat.{ℕ}
 use Rattle.verdict.specs.declared.Answer.{Answer}
-use Rattle.verdict.specs.declared.Answer.the-variants.{Refused, Allowed, Broken}
 use Rattle.judgement.specs.Judgement.{ringShown}
 use borrow.Author.Needs.{needs}
 use Rattle.judgement.proofs.page.ring_length.Statement.{statement}

@@ -47,7 +47,7 @@ returns c =
     let number = place .before in
     let pre = number .before .before .pre in
     λ ring w. block-is _ _ ring _ _ _ _ _ _ (omega (arith, pre .2, sized _ (pre .0) .most-events)) (number .aligned .ensures) (search needs) (place .place .ensures)
-        (given .letter .ensures ∙ ap letter (class .class-of .ensures .0)) (mode .mode-of .ensures .0) (flag .flag-of .ensures .0) (c .star .ensures ring w)
+    (given .letter .ensures ∙ ap letter (class .class-of .ensures .0)) (mode .mode-of .ensures .0) (flag .flag-of .ensures .0) (c .star .ensures ring w)
 
 pub block-spec : {M : Type 1} → statement M
 block-spec =

@@ -27,8 +27,7 @@ loop-again : tie.Need-loop-again Inv-loop μ-loop
 loop-again c =
     let turn = c .before .before in
     let inv = turn .before .loop .inv in
-    let length = c .before .length-of .ensures in
-    (
+    let length = c .before .length-of .ensures in (
       inv .0,
       omega (arith, turn .loop-test .taken),
       omega (arith, c .larger .ensures, inv .2, length, few-in-thread _ (inv .0) _ (turn .loop-test .taken)),

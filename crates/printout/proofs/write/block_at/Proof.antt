@@ -32,7 +32,7 @@ returns-2 c =
     let pre = other .before .before .pre in
     let here = other .if1 .left in
     λ ring w. c .block .ensures ring w ∙ ap (block _ ring) (event-is _ _ _ (pre .0) (pre .1) _ (pre .2) _ here)
-        ∙ sym (block-present _ ring _ _ (present _ _ _ (pre .0) (pre .1) _ (pre .2) _ here))
+    ∙ sym (block-present _ ring _ _ (present _ _ _ (pre .0) (pre .1) _ (pre .2) _ here))
 
 pub block-at-spec : {M : Type 1} → statement M
 block-at-spec =

@@ -29,7 +29,7 @@ loop-again c =
     let turn = c .before .before .before .before in
     let inv = turn .before .loop .inv in
     let made = c .before .before .line .ensures in
-    (inv .0, inv .1, inv .2, omega (arith, turn .loop-test .taken), lines-written _ _ _ (inv .0) _ _ _ _ (inv .4) (turn .loop-test .taken) (made .0) (made .1))
+    (inv .0, inv .1, inv .2, omega (arith, turn .loop-test .taken), lines-written _ _ _ (inv .0) _ _ _ _ (inv .4) (omega (arith, turn .loop-test .taken)) (made .0) (made .1))
 
 same-length : tie.Need-same-length Inv-loop μ-loop
 same-length c = c .before .loop .inv .4 .long
