@@ -1,6 +1,7 @@
 /* The peak stack of each call: a thread whose stack is painted runs the call on every file, and what is no longer paint was used.
  * Reads one file a line in hexadecimal; what a thread that calls nothing uses is taken off. Fails at PROBE_STACK bytes or more.
- * Assumes that a thread's stack grows down and that pthread_attr_setstack is there. */
+ * Assumes that a thread's stack grows down and that pthread_attr_setstack is there, and that symbols are bound when the program starts
+ * (-z now): binding one at its first call uses stack too. */
 #define _GNU_SOURCE
 #include "probe.h"
 

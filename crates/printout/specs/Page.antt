@@ -18,15 +18,15 @@ blockWidth = 20
 abbrev pub lineSize : ℕ → ℕ
 lineSize blocks = blockWidth * blocks + 1
 
--- By class: "R, W or F".
+-- The letter of a class: "R, W or F", the bytes 82, 87 and 70. No event of a recording that loads has another class.
 unfoldable pub letter : ℕ → ℕ
 letter class = getD (32 ∷ 82 ∷ 87 ∷ 70 ∷ []) class 32
 
--- "an event of the ring has a star in column 16"
+-- "an event of the ring has a star in column 16": the byte 42; another has a space, 32.
 unfoldable pub star : List ℕ → ℕ → ℕ
 star ring e = elim (among e ring) [ true ↦ 42 | false ↦ 32 ]
 
--- The page of the recording r with the events of the ring starred.
+-- The blocks and lines of the recording r, with the events of the ring starred.
 module _ (r : Recording ℕ) where
   -- "the location digit, a space, and the value in five columns with leading spaces"; "A fence leaves location and value as spaces."
   unfoldable pub place : ℕ → List ℕ
