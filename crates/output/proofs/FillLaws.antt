@@ -93,6 +93,10 @@ module _ (k : ℕ) (bytes out : List ℕ) (r : Filled) (left : List ℕ) (w : Fi
           let same : Refused (suc m) ≡ Written n = refused-by k bytes out m e .answer ∙ sym (w .answer) ∙ q in
           absurd (let z : _≡_ {A = ℕ} 0 1 = cc in omega arith)
 
+  -- At most m bytes were written, where a call that no other cause refuses has at most m.
+  pub fills-few : (m : ℕ) → (k ≡ 0 → length bytes ≤ m) → (n : ℕ) → r ≡ Written n → n ≤ m
+  fills-few m few n q = (let v = fills-wrote n q in omega (arith, v .size, few (v .none)))
+
   -- A call that no cause applies to is not refused.
   pub fills-fits : k ≡ 0 → length bytes ≤ length out → (n : ℕ) → r ≡ Refused n → ⊥
   fills-fits p h n q =

@@ -28,9 +28,9 @@ use Rattle.printout.specs.Page.{letter, place, star, block}
 use Rattle.printout.specs.Table.{Members}
 
 -- A number that a row has no bit for adds nothing.
-pub none-more : (row : List ℕ) (e : ℕ) → 64 ≤ e → (j : ℕ) → j < 64 → bit row j ≡ union (bit row) (single e) j
+pub no-bit-more : (row : List ℕ) (e : ℕ) → 64 ≤ e → (j : ℕ) → j < 64 → bit row j ≡ union (bit row) (single e) j
 unfolding union single
-none-more row e h j g = sym (ap (λ (b : Bool). bit row j || b) (ne-eqb e j (λ p. omega arith)) ∙ or-false (bit row j))
+no-bit-more row e h j g = sym (ap (λ (b : Bool). bit row j || b) (ne-eqb e j (λ p. omega arith)) ∙ or-false (bit row j))
 
 -- The members of the first k of a ring.
 pub members-none : (row : List ℕ) → bit row ≡ empty → Members [] row

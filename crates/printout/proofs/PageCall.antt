@@ -10,7 +10,7 @@ use Rattle.recording.specs.Causes.{refusal}
 use Rattle.output.specs.Output.{placed, Fills}
 use Rattle.output.specs.declared.Filled.{Filled}
 use Rattle.output.specs.declared.Filled.the-variants.{Refused, Written}
-use Rattle.output.proofs.FillLaws.{fills-short, fills-written, fills-wrote}
+use Rattle.output.proofs.FillLaws.{fills-short, fills-written, fills-few}
 use Rattle.printout.specs.Page.{lineSize, lines, longest, pageOf, threadLists, page}
 use Rattle.printout.proofs.TableLaws.{few-lines}
 use Rattle.printout.proofs.PageLaws.{page-size}
@@ -36,6 +36,4 @@ few-bytes f ring loads = omega (arith, page-size f loads ring, few-lines f loads
 
 -- So has what is written, whatever the room.
 pub few-written : (f ring out : List ℕ) (r : Filled) (left : List ℕ) → Fills (refusal f) (page f ring) out r left → (n : ℕ) → r ≡ Written n → n ≤ 1458
-few-written f ring out r left w n q =
-    let v = fills-wrote (refusal f) (page f ring) out r left w n q in
-    omega (arith, v .size, few-bytes f ring (v .none))
+few-written f ring out r left w = fills-few (refusal f) (page f ring) out r left w 1458 (few-bytes f ring)

@@ -60,8 +60,10 @@ pub fn lines(out: &mut [u8], file: &[u8], stars: Row, at: [u8; 64], starts: [u8;
     ensures { λ _. ⌜ ((ring : List ℕ) → Members ring stars → now (out .exit) ≡ placed (now (out .entry)) 0 (lines (decode (now (file .entry))) ring n (threadLists (now (file .entry)) threads))) ⌝ }
 {
     let mut k: usize = 0;
-    while k < n {
+    let mut left = n;
+    while 0 < left {
         line(out, file, stars, at, starts, k);
         k += 1;
+        left -= 1;
     }
 }

@@ -16,7 +16,7 @@ use Rattle.output.specs.Output.{placed, Fills}
 use Rattle.output.specs.declared.Filled.{Filled}
 use Rattle.output.specs.declared.Filled.the-variants.{Refused, Written}
 use Rattle.output.proofs.OutputLaws.{length-placed, placed-placed, part-placed}
-use Rattle.output.proofs.FillLaws.{fills-short, fills-written, fills-other, fills-wrote}
+use Rattle.output.proofs.FillLaws.{fills-short, fills-written, fills-other, fills-few}
 use Rattle.translation.specs.Contents.{contents}
 use Rattle.translation.specs.Translate.{newEvents, translated}
 use Rattle.translation.specs.Encode.{linksUpTo, header, eventRecords, linkRecords, encode}
@@ -39,9 +39,7 @@ module _ (f : List ℕ) where
 
   -- What is written has at most 1320 bytes, whatever the room.
   pub few-written : (out : List ℕ) (r : Filled) (left : List ℕ) → Fills (causeFor source f) (translation f) out r left → (n : ℕ) → r ≡ Written n → n ≤ 1320
-  few-written out r left w n q =
-      let v = fills-wrote (causeFor source f) (translation f) out r left w n q in
-      omega (arith, v .size, few-bytes f (cause-goes-on source f (v .none)))
+  few-written out r left w = fills-few (causeFor source f) (translation f) out r left w 1320 (λ e. few-bytes f (cause-goes-on source f e))
 
 -- Behind the header there is room for the events.
 header-length : (f out one : List ℕ) (n m : ℕ) → 8 + 8 * n + 4 * m ≤ length out → one ≡ placed out 0 (header (chip f)) → length one ≡ length out

@@ -1,6 +1,6 @@
--- `write::lines` meets its contract, line by line.
+-- `write::lines` meets its contract, line by line: k are written, and the others are left.
 use mathlib.Core.Path.{_≡_}
-use Prim.Native.Nat.{_-_, _≤_}
+use Prim.Native.Nat.{_+_, _≤_}
 use native.Mathlib.Omega.{arith}
 use Rattle.recording.specs.Causes.{refusal}
 use Rattle.printout.specs.Table.{Table}
@@ -10,10 +10,10 @@ use Rattle.printout.proofs.write.lines.Statement.{statement}
 use Rattle.printout.proofs.write.lines.Tie as tie
 
 abbrev Inv-loop : tie.InvT-loop
-Inv-loop out₀ file stars at starts n k₀ out k = (refusal file ≡ 0) × Table file at starts × (n ≤ 18) × (k ≤ n) × LinesWritten file stars out₀ n k out
+Inv-loop out₀ file stars at starts n k₀ left₀ out k left = (refusal file ≡ 0) × Table file at starts × (n ≤ 18) × (k + left ≡ n) × LinesWritten file stars out₀ n k out
 
 abbrev μ-loop : tie.MeasureT-loop
-μ-loop out₀ file stars at starts n k₀ out k = n - k
+μ-loop out₀ file stars at starts n k₀ left₀ out k left = left
 
 loop-holds : tie.Need-loop-holds Inv-loop μ-loop
 loop-holds c = (let pre = c .before .before .pre in (pre .0, pre .1, pre .2, search needs, lines-none _ _ _ _ (pre .3)))
@@ -22,14 +22,14 @@ line-requires : tie.Need-line-requires Inv-loop μ-loop
 line-requires c κs =
     let turn = c .before in
     let inv = turn .before .loop .inv in
-    (inv .0, inv .1, omega (arith, turn .loop-test .taken, inv .2), omega (arith, turn .loop-test .taken, inv .4 .room, inv .4 .long))
+    (inv .0, inv .1, omega (arith, turn .loop-test .taken, inv .2, inv .3), omega (arith, turn .loop-test .taken, inv .3, inv .4 .room, inv .4 .long))
 
 loop-again : tie.Need-loop-again Inv-loop μ-loop
 loop-again c =
     let turn = c .before .before .before .before in
     let inv = turn .before .loop .inv in
     let made = c .before .before .line .ensures in
-    (inv .0, inv .1, inv .2, omega (arith, turn .loop-test .taken), lines-written _ _ _ (inv .0) _ _ _ _ (inv .4) (omega (arith, turn .loop-test .taken)) (made .0) (made .1))
+    (inv .0, inv .1, inv .2, omega (arith, turn .loop-test .taken, inv .3), lines-written _ _ _ (inv .0) _ _ _ _ (inv .4) (omega (arith, turn .loop-test .taken, inv .3)) (made .0) (made .1))
 
 same-length : tie.Need-same-length Inv-loop μ-loop
 same-length c = c .before .loop .inv .4 .long
@@ -47,6 +47,7 @@ lines-spec =
     μ-loop
     loop-holds
     line-requires
+    (λ c. search needs)
     (λ c. search needs)
     (λ c. search needs)
     loop-again
