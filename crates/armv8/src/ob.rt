@@ -10,7 +10,7 @@ use verdict::base::Sets;
 ghost use mathlib.Core.Path.{_≡_};
 ghost use Rattle.relation.specs.Rel.{nodes};
 ghost use Rattle.relation.specs.Bits.{bit, edge};
-ghost use Rattle.models.specs.Recording.{R, W, Racq, Wrel, Fld, Fsy};
+ghost use Rattle.models.specs.Recording.{R, W, Racq, Wrel, Fld, Fsy, Fisb};
 ghost use Rattle.models.specs.Graph.{Base};
 ghost use Rattle.models.specs.Term.{eval, ⟨_⟩, _⨾_, _∪_, rfₑ, rfᵢ, coₑ, coᵢ, frₑ};
 ghost use Rattle.models.specs.Term as term;
@@ -25,10 +25,12 @@ fn obs(rfe: Grid, fre: Grid, coe: Grid) -> Grid
     grid::or(grid::or(rfe, fre), coe)
 }
 
-// dob = (addr ∪ data) ; rfi? ∪ (ctrl ∪ data) ; [W] ; coi? ∪ addr ; po ; [W]
+// dob = (addr ∪ data) ; rfi? ∪ (ctrl ∪ data) ; [W] ; coi? ∪ addr ; po ; [W] ∪ (ctrl ∪ addr ; po) ; [Fisb] ; po ; [R]
 fn dob(
     events: Row,
+    reads: Row,
     writes: Row,
+    fisb: Row,
     po: Grid,
     data: Grid,
     addr: Grid,
@@ -36,7 +38,7 @@ fn dob(
     rfi: Grid,
     coi: Grid,
 ) -> Grid
-    ensures { λ r. ⌜ ((B : Base) → bit events ≡ B .E → bit writes ≡ B .set W
+    ensures { λ r. ⌜ ((B : Base) → bit events ≡ B .E → bit reads ≡ B .set R → bit writes ≡ B .set W → bit fisb ≡ B .set Fisb
         → edge po ≡ B .po → edge «data» ≡ B .«data» → edge addr ≡ B .addr → edge ctrl ≡ B .ctrl
         → edge rfi ≡ eval nodes rfᵢ B → edge coi ≡ eval nodes coᵢ B
         → edge r ≡ eval nodes armv8.dob B) ⌝ }
@@ -46,9 +48,14 @@ fn dob(
         grid::into(grid::or(ctrl, data), writes),
         grid::optional(coi, events),
     );
+    let later = grid::then(addr, po);
+    let barrier = grid::then(
+        grid::into(grid::or(ctrl, later), fisb),
+        grid::into(po, reads),
+    );
     grid::or(
-        grid::or(read, write),
-        grid::then(addr, grid::into(po, writes)),
+        grid::or(grid::or(read, write), grid::into(later, writes)),
+        barrier,
     )
 }
 
@@ -104,7 +111,9 @@ pub fn ob(sets: Sets, relations: Relations, fre: Grid, coe: Grid) -> Grid
     let obs = obs(grid::minus(rf, po), fre, coe);
     let dob = dob(
         sets[base::EVENTS],
+        sets[base::READS],
         sets[base::WRITES],
+        sets[base::FISB],
         po,
         relations[base::DATA],
         relations[base::ADDR],

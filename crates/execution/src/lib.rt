@@ -24,8 +24,8 @@ pub fn events(file: &[u8]) -> Row
 }
 
 // The sets: all events, initial writes, reads, writes, fences, acquire and exclusive reads, release and strong writes,
-// acquire, release and SC fences, dmb ld and dmb sy.
-pub fn sets(file: &[u8]) -> [Row; 14]
+// acquire, release and SC fences, dmb ld, dmb sy and isb.
+pub fn sets(file: &[u8]) -> [Row; 15]
     requires { ⌜ refusal (now file) ≡ 0 ⌝ }
     ensures { λ r. ⌜ SetsOf (decode (now (file .entry))) r ⌝ }
 {
@@ -54,6 +54,7 @@ pub fn sets(file: &[u8]) -> [Row; 14]
         fences[4],
         fences[5],
         fences[6],
+        fences[7],
     ]
 }
 

@@ -5,7 +5,7 @@ use mathlib.Core.Path.{_≡_, sym, _∙_, subst}
 use Prim.Native.Nat.{ℕ}
 use native.Mathlib.Omega.{arith}
 use lib.Dec.{T, eqb, eqb→eq, eqb-refl}
-use Rattle.models.specs.Recording.{Recording, event, ofClass, ofMode, flagged, read, write, fence, fenceOf, acquireFence, releaseFence, access, sameLocation, coStep, SetName, R, W, F, Racq, Rex, Wrel, Wstrong, Facq, Frel, Fsc, Fld, Fsy, member}
+use Rattle.models.specs.Recording.{Recording, event, ofClass, ofMode, flagged, read, write, fence, fenceOf, acquireFence, releaseFence, access, sameLocation, coStep, SetName, R, W, F, Racq, Rex, Wrel, Wstrong, Facq, Frel, Fsc, Fld, Fsy, Fisb, member}
 use Rattle.models.proofs.Tests.{and-intro, and-left, and-right, or-left, or-right, or-cases}
 
 pub eq-test : (m n : ℕ) → m ≡ n → T (eqb m n)
@@ -107,6 +107,7 @@ module _ {E : Type 0} (r : Recording E) where
   member-event Fsc e h = class-event 3 e (mode-class 3 4 e h)
   member-event Fld e h = class-event 3 e (mode-class 3 5 e h)
   member-event Fsy e h = class-event 3 e (mode-class 3 6 e h)
+  member-event Fisb e h = class-event 3 e (mode-class 3 7 e h)
 
   -- Accesses and locations.
   pub access-cases : (e : E) → T (access r e) → T (read r e) ⊎ T (write r e)

@@ -1,14 +1,14 @@
 -- ARMv8 (003, section 4.2 and appendix C), in the paper's order and names. R^Q is Racq, W^L is Wrel, and W^ex, the writes of rmw pairs, is codom(rmw).
-use Rattle.models.specs.Recording.{R, W, Racq, Wrel, Fld, Fsy}
+use Rattle.models.specs.Recording.{R, W, Racq, Wrel, Fld, Fsy, Fisb}
 use Rattle.models.specs.Term.{Term, po, rf, co, rmw, «data», addr, ctrl, ⟨_⟩, ⟨codom_⟩, _⨾_, _∪_, opt, po-loc, fr, rfₑ, rfᵢ, coₑ, coᵢ, frₑ}
 
 -- observed-by
 abbrev pub obs : Term
 obs = rfₑ ∪ frₑ ∪ coₑ
 
--- dependency-ordered-before
+-- dependency-ordered-before. The last part is 02's (slip 3) and ARM's: "ctrl, or addr then po, into an isb, then po to a read".
 abbrev pub dob : Term
-dob = (addr ∪ «data») ⨾ opt rfᵢ ∪ (ctrl ∪ «data») ⨾ ⟨ W ⟩ ⨾ opt coᵢ ∪ addr ⨾ po ⨾ ⟨ W ⟩
+dob = (addr ∪ «data») ⨾ opt rfᵢ ∪ (ctrl ∪ «data») ⨾ ⟨ W ⟩ ⨾ opt coᵢ ∪ addr ⨾ po ⨾ ⟨ W ⟩ ∪ (ctrl ∪ addr ⨾ po) ⨾ ⟨ Fisb ⟩ ⨾ po ⨾ ⟨ R ⟩
 
 -- atomic-ordered-before
 abbrev pub aob : Term

@@ -57,7 +57,7 @@ module _ {E : Type 0} (r : Recording E) where
   abbrev pub strongWrite : E → Bool
   strongWrite = flagged 2
 
-  -- Source fences: 1 acquire, 2 release, 3 both, 4 SC. Chip fences: 5 dmb ld, 6 dmb sy.
+  -- Source fences: 1 acquire, 2 release, 3 both, 4 SC. Chip fences: 5 dmb ld, 6 dmb sy, 7 isb (02, slip 3).
   abbrev pub fenceOf : ℕ → E → Bool
   fenceOf = ofMode 3
 
@@ -79,9 +79,9 @@ module _ {E : Type 0} (r : Recording E) where
   coStep a b = r .link 2 a b || (r .initial a && r .recorded b && write b && sameLocation a b)
 
 -- Their names in 003: reads, writes, fences; acquire and exclusive reads; release and strong writes;
--- source fences of at least acquire, at least release, and SC mode; chip fences dmb ld and dmb sy.
+-- source fences of at least acquire, at least release, and SC mode; chip fences dmb ld and dmb sy; and isb, which 003 leaves out.
 pub data SetName : Type 0 where
-  R W F Racq Rex Wrel Wstrong Facq Frel Fsc Fld Fsy : SetName
+  R W F Racq Rex Wrel Wstrong Facq Frel Fsc Fld Fsy Fisb : SetName
 
 abbrev pub member : {E : Type 0} → Recording E → SetName → E → Bool
 member r R = read r
@@ -96,3 +96,4 @@ member r Frel = releaseFence r
 member r Fsc = fenceOf r 4
 member r Fld = fenceOf r 5
 member r Fsy = fenceOf r 6
+member r Fisb = fenceOf r 7

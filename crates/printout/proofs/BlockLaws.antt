@@ -56,7 +56,7 @@ members-all ring row k h w = record { each = λ j g. w .each j g ∙ ap (among j
 -- What is legal has one digit each.
 pub record OneDigit (class mode flag location : ℕ) : Type 0 where
   pub few-classes : class ≤ 3
-  pub few-modes : mode ≤ 6
+  pub few-modes : mode ≤ 7
   pub few-flags : flag ≤ 1
   pub few-locations : location ≤ 7
 
@@ -103,9 +103,9 @@ module _ (s : Side) (L mode flag location value : ℕ) (few : L ≤ 8) where
         few-locations = omega (arith, eqb-true location 0 (and-left (eqb location 0) (eqb value 0) (and-right (fenceMode s mode && eqb flag 0) zeros p)));
       }
     where
-      modes : (r : Side) → fenceMode r mode ≡ true → mode ≤ 6
+      modes : (r : Side) → fenceMode r mode ≡ true → mode ≤ 7
       modes true q = omega (arith, leb-true mode 4 (and-right (leb 1 mode) (leb mode 4) q))
-      modes false q = leb-true mode 6 (and-right (leb 5 mode) (leb mode 6) q)
+      modes false q = leb-true mode 7 (and-right (leb 5 mode) (leb mode 7) q)
 
   one-digit : (class : ℕ) → legal s L class mode flag location value ≡ true → OneDigit class mode flag location
   unfolding legal

@@ -25,9 +25,9 @@ readLegal mode flag = leb mode 1 && leb flag 1
 unfoldable pub writeLegal : Side → ℕ → ℕ → Bool
 writeLegal s mode flag = (eqb mode 0 || eqb mode 2) && (eqb flag 0 || (eqb flag 1 && s))
 
--- Source fences have modes 1 to 4, chip fences 5 and 6.
+-- Source fences have modes 1 to 4, chip fences 5, 6 and 7 (7: 02, slip 3).
 unfoldable pub fenceMode : Side → ℕ → Bool
-fenceMode s mode = elim s [ true ↦ leb 1 mode && leb mode 4 | false ↦ leb 5 mode && leb mode 6 ]
+fenceMode s mode = elim s [ true ↦ leb 1 mode && leb mode 4 | false ↦ leb 5 mode && leb mode 7 ]
 
 unfoldable pub fenceLegal : Side → ℕ → ℕ → Bool
 fenceLegal s mode flag = fenceMode s mode && eqb flag 0

@@ -51,14 +51,14 @@ pub fn between(low: usize, x: usize, high: usize) -> bool
     low <= x && x <= high
 }
 
-// A fence has mode 1 to 4 in a source recording, 5 or 6 in a chip recording.
+// A fence has mode 1 to 4 in a source recording, 5 to 7 in a chip recording.
 pub fn fence_mode(source: bool, mode: usize) -> bool
     ensures { λ r. ⌜ r ≡ fenceMode source mode ⌝ }
 {
     if source {
         return between(1, mode, 4);
     }
-    between(5, mode, 6)
+    between(5, mode, 7)
 }
 
 // A fence: its mode, and flag 0.

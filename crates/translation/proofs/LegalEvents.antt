@@ -79,6 +79,18 @@ module _ (L class mode flag location value : ℕ) where
   unfolding legal
   read-any r p = p
 
+-- A fence becomes a dmb ld or a dmb sy, and an inserted one is a dmb ld.
+new-fence : (s : Contents) (e : ℕ) → s .class e ≡ 3 → (newMode s e ≡ 5) ⊎ (newMode s e ≡ 6)
+new-fence s e c = elim (ℕ-discrete (s .mode e) 1) [ yes x ↦ inl (law.mode-acquire s e c x) | no x ↦ inr (law.mode-other s e c x) ]
+
+pub new-fences : (s : Contents) (e : ℕ) → translated s .class e ≡ 3 → (translated s .mode e ≡ 5) ⊎ (translated s .mode e ≡ 6)
+unfolding translated
+new-fences s e c =
+    elim (decLe e (s .events)) [
+      | yes g ↦ rw (law.kept s (newMode s) 5 e g) (new-fence s e (sym (law.kept s (s .class) 3 e g) ∙ c))
+      | no n ↦ inl (law.made s (newMode s) 5 e (omega (arith, n)))
+    ]
+
 -- An event of the source, and its translation.
 module _ (L : ℕ) (s : Contents) (e : ℕ) (ok : legalAt source L s e ≡ true) where
   abbrev value : ℕ
@@ -104,9 +116,6 @@ module _ (L : ℕ) (s : Contents) (e : ℕ) (ok : legalAt source L s e ≡ true)
         | inl x ↦ law.flag-kept s e (is-false (strong s e) (λ w. omega (arith, flagged-is s 2 e w .flag))) ∙ x
       ]
 
-  new-fence : s .class e ≡ 3 → (newMode s e ≡ 5) ⊎ (newMode s e ≡ 6)
-  new-fence c = elim (ℕ-discrete (s .mode e) 1) [ yes x ↦ inl (law.mode-acquire s e c x) | no x ↦ inr (law.mode-other s e c x) ]
-
   translated-legal : 1 ≤ e → e ≤ s .events → legal chip L (s .class e) (newMode s e) (newFlag s e) (s .location e) value ≡ true
   unfolding legalAt
   translated-legal h g =
@@ -116,7 +125,7 @@ module _ (L : ℕ) (s : Contents) (e : ℕ) (ok : legalAt source L s e ≡ true)
           | inl c ↦ rw (c, law.mode-access s e (λ d. omega (arith, c)), new-flag-zero c h g)
               (chip-write L 2 (s .mode e) 0 (s .location e) value (legal-write L 2 (s .mode e) (s .flag e) (s .location e) value (of-class 2 c) .0))
           | inr c ↦ (let w = legal-fence L 3 (s .mode e) (s .flag e) (s .location e) value (of-class 3 c) in
-              rw c (chip-fence L 3 (newMode s e) (newFlag s e) (s .location e) value (new-fence c) (not-strong 3 c (λ d. omega arith) ∙ w .2) (w .3)))
+              rw c (chip-fence L 3 (newMode s e) (newFlag s e) (s .location e) value (new-fence s e c) (not-strong 3 c (λ d. omega arith) ∙ w .2) (w .3)))
         ]
       ]
 

@@ -1,10 +1,13 @@
--- The theorems of the translation of a source file that loads (01, "The translation").
+-- The theorems of the translation of a source file that loads (01, "The translation"; 02, slips 1 and 3).
 use mathlib.Core.Path.{_≡_}
+use mathlib.Core.Bool.{false}
 use mathlib.Core.List.{List}
 use Prim.Native.Nat.{ℕ, _<_, _≤_}
 use native.Mathlib.Omega.{arith}
 use lib.ListN.{length}
 use Rattle.relation.specs.Rel.{nodes}
+use Rattle.relation.proofs.Truth.{holds, is-false}
+use Rattle.models.specs.Recording.{member, Fisb}
 use Rattle.models.specs.Graph.{base}
 use Rattle.models.specs.Rules.{IMM, ARMv8, verdict}
 use Rattle.models.specs.Translated.{Translated}
@@ -21,7 +24,7 @@ use Rattle.translation.specs.Threads.{ThreadTranslated}
 use Rattle.translation.proofs.EncodeLaws.{encode-events, encode-links, encode-length}
 use Rattle.translation.proofs.Bounds.{most-events, most-links}
 use Rattle.translation.proofs.Threads.{thread-translated}
-use Rattle.translation.proofs.TranslationLoads.{translated-relates, translation-accepted, translation-side}
+use Rattle.translation.proofs.TranslationLoads.{translated-relates, without-isb, translation-accepted, translation-side}
 
 module _ (f : List ℕ) (given : Source f) where
   -- Every translation of a recording that loads, loads.
@@ -44,6 +47,11 @@ module _ (f : List ℕ) (given : Source f) where
   -- "Eighteen is enough, since a thread of 12 has at most six strong writes."
   pub threads-translated : (t : ℕ) → t < threads → ThreadTranslated f t
   threads-translated = thread-translated f given
+
+  -- "Translations never write one": no event of a translation is an isb.
+  pub translation-without-isb : (e : ℕ) → member (decode (translation f)) Fisb e ≡ false
+  unfolding translation
+  translation-without-isb e = is-false (member (decode (translation f)) Fisb e) (λ p. without-isb f given e (holds (member (decode (translation f)) Fisb e) p))
 
   -- The translation is related to its source as the soundness of the mapping asks.
   pub translation-related : Translated (decode f) (decode (translation f))

@@ -11,11 +11,11 @@ use lib.Dec.{T, eqb}
 use lib.ListN.{length}
 use Rattle.relation.specs.Rel.{nodes, below, inverse, some}
 use Rattle.relation.proofs.Meaning.{and-right, and-both, or-left, some-sound, below-mem}
-use Rattle.models.specs.Recording.{Recording, event, read, write, strongWrite}
+use Rattle.models.specs.Recording.{Recording, event, read, write, strongWrite, member, Fisb}
 use Rattle.models.specs.Loads.{Loads}
 use Rattle.models.specs.Translated.{Translated}
 use Rattle.models.proofs.FromTranslated.{translation-loads}
-use Rattle.models.proofs.MemberLaws.{class-event}
+use Rattle.models.proofs.MemberLaws.{class-event, class-is, mode-class, mode-is}
 use Rattle.layout.specs.Layout as layout
 use Rattle.layout.specs.Layout.{Side, sideOf, side, events, locations, threads, kindKnown, bySide, mostInThread, fullLength, linkByte}
 use Rattle.layout.specs.Chains.{thread, linksInto, allOf}
@@ -36,7 +36,7 @@ use Rattle.translation.proofs.TranslateLaws.{flagged-is, Linked, stays,
 use Rattle.translation.proofs.Says.{Says, Event, initially, recorded, event-says, flagged-says, encode-says}
 use Rattle.translation.proofs.SourceFacts as source
 use Rattle.translation.proofs.Bounds.{most-events, most-links, links-fit}
-use Rattle.translation.proofs.LegalEvents.{legalAt, legal-says, fence-modes, write-flags, legal-new}
+use Rattle.translation.proofs.LegalEvents.{legalAt, legal-says, new-fences, fence-modes, write-flags, legal-new}
 use Rattle.translation.proofs.LegalLinks as legality
 use Rattle.translation.proofs.Threads.{threads-fine, thread-translated}
 use Rattle.translation.proofs.Relates.{Sound, relates}
@@ -88,6 +88,19 @@ module _ (f : List ℕ) (s : Source f) where
 
   pub translated-relates : Translated S C
   translated-relates = relates S C old old-says chip-says sound
+
+  pub without-isb : (e : ℕ) → T (member C Fisb e) → ⊥
+  without-isb e h =
+      let fence = mode-class C 3 7 e h in
+      let class = class-is C 3 e fence in
+      let mode = mode-is C 3 7 e h in
+      elim (event-says C (chip f) chip-says e (class-event C 3 e fence)) [
+        | initially i j ↦ omega (arith, class, chip-says .initial-class e i)
+        | recorded i g ↦ elim (new-fences old e (sym (chip-says .class e i g) ∙ class)) [
+          | inl x ↦ omega (arith, x, chip-says .mode e i g, mode)
+          | inr x ↦ omega (arith, x, chip-says .mode e i g, mode)
+        ]
+      ]
 
   chip-loads : Loads C
   chip-loads = translation-loads S C l translated-relates

@@ -3,7 +3,7 @@ use mathlib.Core.List.{List, []}
 use Prim.Native.Nat.{ℕ}
 use lib.ListN.{getD}
 use Rattle.relation.specs.Bits.{bit, edge}
-use Rattle.models.specs.Recording.{SetName, R, W, F, Racq, Rex, Wrel, Wstrong, Facq, Frel, Fsc, Fld, Fsy}
+use Rattle.models.specs.Recording.{SetName, R, W, F, Racq, Rex, Wrel, Wstrong, Facq, Frel, Fsc, Fld, Fsy, Fisb}
 use Rattle.models.specs.Graph.{Base}
 
 -- The place of a set, behind the events and the initial writes.
@@ -20,6 +20,7 @@ place Frel = 10
 place Fsc = 11
 place Fld = 12
 place Fsy = 13
+place Fisb = 14
 
 unfoldable pub baseOf : List (List ℕ) → List (List (List ℕ)) → Base
 baseOf sets relations =

@@ -4,7 +4,7 @@
 use relation::grid::Grid;
 use relation::row::Row;
 
-pub type Sets = [Row; 14];
+pub type Sets = [Row; 15];
 
 pub type Relations = [Grid; 9];
 
@@ -36,6 +36,8 @@ pub const FSC: usize = 11;
 pub const FLD: usize = 12;
 
 pub const FSY: usize = 13;
+
+pub const FISB: usize = 14;
 
 // Places of the relations.
 pub const LOC: usize = 0;

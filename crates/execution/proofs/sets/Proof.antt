@@ -1,7 +1,7 @@
 -- `sets` meets its contract, place by place.
 use mathlib.Core.Path.{refl, ap₂, _∙_}
 use Rattle.relation.specs.Rel.{union}
-use Rattle.models.specs.Recording.{event, acquireFence, releaseFence, R, W, F, Racq, Rex, Wrel, Wstrong, Facq, Frel, Fsc, Fld, Fsy}
+use Rattle.models.specs.Recording.{event, acquireFence, releaseFence, R, W, F, Racq, Rex, Wrel, Wstrong, Facq, Frel, Fsc, Fld, Fsy, Fisb}
 use Rattle.layout.specs.Decode.{decode}
 use Rattle.recording.proofs.Accepted.{sized}
 use Rattle.reading.proofs.SortLaws.{all-recorded, class-recorded, sorted-class, sorted-writes, sorted-mode, sorted-flag, union-three}
@@ -46,7 +46,7 @@ sorted-requires-6 c κs =
 returns : tie.Need-returns
 unfolding event decode union acquireFence releaseFence
 returns c =
-    let release = c .before .before .before in
+    let release = c .before .before .before .before in
     let acquire = release .before .before in
     let all-writes = acquire .before .before .before .before .before .before .before in
     let all = all-writes .before .before .before in
@@ -82,6 +82,7 @@ returns c =
         | Fsc ↦ fence 4 (search needs) (search needs)
         | Fld ↦ fence 5 (search needs) (search needs)
         | Fsy ↦ fence 6 (search needs) (search needs)
+        | Fisb ↦ fence 7 (search needs) (search needs)
       ];
     }
 
@@ -118,6 +119,7 @@ sets-spec =
     (λ c κs. search needs)
     (λ c. search needs)
     (λ c κs. search needs)
+    (λ c. search needs)
     (λ c. search needs)
     (λ c. search needs)
     (λ c. search needs)

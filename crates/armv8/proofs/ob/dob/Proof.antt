@@ -9,24 +9,36 @@ use Rattle.armv8.proofs.ob.dob.Tie as tie
 returns : tie.Need-returns
 unfolding eval
 returns c =
-    λ B e w p d k t i j. let after-then3 = c .before in
-    let after-or3 = after-then3 .before .before in
-    let after-then2 = after-or3 .before in
+    λ B e r w s p d k t i j. let after-into4 = c .before .before in
+    let after-then4 = after-into4 .before .before in
+    let after-into2 = after-then4 .before .before in
+    let after-then3 = after-into2 .before .before in
+    let after-then2 = after-then3 .before in
     let after-into = after-then2 .before .before in
     let after-then = after-into .before .before in
+    let later = is-then (given k) (given p) (after-then3 .then3 .ensures) in
     holds B dob
+    (is-union
     (is-union
     (is-union
     (is-then (is-union (given k) (given d) (after-then .before .before .or .ensures)) (is-opt e (given i) (after-then .before .optional .ensures)) (after-then .then .ensures))
     (is-assoc
     (is-then (is-into _ w (is-union (given t) (given d) (after-into .before .or2 .ensures)) (after-into .into .ensures))
-    (is-opt e (given j) (after-then2 .before .optional2 .ensures)) (after-then2 .then2 .ensures))) (after-or3 .or3 .ensures))
-    (is-then (given k) (is-into _ w (given p) (after-then3 .before .into2 .ensures)) (after-then3 .then3 .ensures)) (c .or4 .ensures))
+    (is-opt e (given j) (after-then2 .before .optional2 .ensures)) (after-then2 .then2 .ensures))) (after-into4 .before .or4 .ensures))
+    (is-assoc (is-into _ w later (after-into4 .into4 .ensures))) (c .before .or5 .ensures))
+    (is-assoc
+    (is-then (is-into _ s (is-union (given t) later (after-into2 .before .or3 .ensures)) (after-into2 .into2 .ensures))
+    (is-into _ r (given p) (after-then4 .before .into3 .ensures)) (after-then4 .then4 .ensures))) (c .or6 .ensures))
 
 pub dob-spec : {M : Type 1} → statement M
 dob-spec =
     tie.close
     (tie.spec
+    (λ c κs. search needs)
+    (λ c κs. search needs)
+    (λ c κs. search needs)
+    (λ c κs. search needs)
+    (λ c κs. search needs)
     (λ c κs. search needs)
     (λ c κs. search needs)
     (λ c κs. search needs)

@@ -14,7 +14,7 @@ returns c =
     λ f k. let after-bob = c .before .before .before in
     let after-aob = after-bob .before .before .before .before .before .before .before in
     let after-dob = after-aob .before .before .before .before in
-    let after-obs = after-dob .before .before .before .before .before .before in
+    let after-obs = after-dob .before .before .before .before .before .before .before .before in
     let after-coi = after-obs .before .before in
     let after-rfi = after-coi .before .before in
     let a = after-rfi .before .before .before .args in
@@ -22,7 +22,7 @@ returns c =
     let i = after-rfi .and .ensures in
     let j = after-coi .and2 .ensures in
     let obs = after-obs .obs .ensures B (after-obs .before .minus .ensures) f k in
-    let dob = after-dob .dob .ensures B refl refl refl refl refl refl i j in
+    let dob = after-dob .dob .ensures B refl refl refl refl refl refl refl refl i j in
     let aob = after-aob .aob .ensures B refl refl refl i in
     let bob = after-bob .bob .ensures B refl refl refl refl refl refl refl j in
     holds B ob
@@ -39,6 +39,8 @@ ob-spec =
     (λ c κs. search needs)
     (λ c κs. search needs)
     (λ c κs. search needs)
+    (λ c. search needs)
+    (λ c. search needs)
     (λ c. search needs)
     (λ c. search needs)
     (λ c. search needs)
