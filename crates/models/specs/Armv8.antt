@@ -7,6 +7,7 @@ abbrev pub obs : Term
 obs = rfₑ ∪ frₑ ∪ coₑ
 
 -- dependency-ordered-before. The last part is 02's (slip 3) and ARM's: "ctrl, or addr then po, into an isb, then po to a read".
+-- 003 leaves isb out (footnote 8).
 abbrev pub dob : Term
 dob = (addr ∪ «data») ⨾ opt rfᵢ ∪ (ctrl ∪ «data») ⨾ ⟨ W ⟩ ⨾ opt coᵢ ∪ addr ⨾ po ⨾ ⟨ W ⟩ ∪ (ctrl ∪ addr ⨾ po) ⨾ ⟨ Fisb ⟩ ⨾ po ⨾ ⟨ R ⟩
 
