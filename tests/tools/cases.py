@@ -12,24 +12,33 @@ HAND_WRITTEN = [  # a text, its file's bytes
      """02 05 02 06 00 03 02 01
      00 03 06 00 00 00 00 00    00 01 01 01 01 2c 01 03    05 02 00 00 00 ff ff 06    00 02 02 00 01 2c 01 01    04 03 05 00 00 00 00 00
      02 04 03 00    04 02 39 00    05 06 03 00    00 06 03 00    00 01 04 00    00 02 38 00"""),
+    # an isb first in its thread, and one that a ctrl link leads into
+    ("chip locations x y\nthread 1\n3: isb\n1: ldr y = 1\n4: isb\n2: ldr x = 0\nctrl 1 -> 4\nrf init x -> 2\n",
+     """02 04 02 02 03 00 00 00
+     04 01 00 00 01 01 00 00    00 01 00 00 00 00 00 02    01 03 07 00 00 00 00 00    02 03 07 00 00 00 00 01
+     00 06 01 00    00 01 38 00"""),
     # a link three times, chained in an order of its own
     ("source locations x\nthread 2\n1: read relaxed x = 0\nrf init x -> 1\nrf 56 -> 1\nrf 56 -> 1\nchain 1: 2 3 1\n",
      "01 01 01 03 00 01 00 00    00 01 00 00 00 00 00 02    00 01 38 00    03 01 38 00    01 01 38 00"),
 ]
-MODES = {  # the event on a line: class, mode, flag, by kind
-    "source": {"read relaxed x = 0": "01 00 00", "read relaxed exclusive x = 0": "01 00 01", "read acquire x = 0": "01 01 00",
-               "read acquire exclusive x = 0": "01 01 01", "write relaxed x = 0": "02 00 00", "write relaxed strong x = 0": "02 00 01",
-               "write release x = 0": "02 02 00", "write release strong x = 0": "02 02 01", "fence acquire": "03 01 00",
-               "fence release": "03 02 00", "fence acquire-release": "03 03 00", "fence sc": "03 04 00"},
-    "chip": {"ldr x = 0": "01 00 00", "ldr exclusive x = 0": "01 00 01", "ldar x = 0": "01 01 00", "ldar exclusive x = 0": "01 01 01",
-             "str x = 0": "02 00 00", "stlr x = 0": "02 02 00", "dmb ld": "03 05 00", "dmb sy": "03 06 00"},
+NAMES = {  # the event on a line: class, mode and flag in its file, the event in a drawing; by kind
+    "source": {"read relaxed x = 0": ("01 00 00", "R rlx x=0"), "read relaxed exclusive x = 0": ("01 00 01", "R rlx excl x=0"),
+               "read acquire x = 0": ("01 01 00", "R acq x=0"), "read acquire exclusive x = 0": ("01 01 01", "R acq excl x=0"),
+               "write relaxed x = 0": ("02 00 00", "W rlx x=0"), "write relaxed strong x = 0": ("02 00 01", "W rlx strong x=0"),
+               "write release x = 0": ("02 02 00", "W rel x=0"), "write release strong x = 0": ("02 02 01", "W rel strong x=0"),
+               "fence acquire": ("03 01 00", "F acq"), "fence release": ("03 02 00", "F rel"),
+               "fence acquire-release": ("03 03 00", "F acq-rel"), "fence sc": ("03 04 00", "F sc")},
+    "chip": {"ldr x = 0": ("01 00 00", "ldr x=0"), "ldr exclusive x = 0": ("01 00 01", "ldr excl x=0"),
+             "ldar x = 0": ("01 01 00", "ldar x=0"), "ldar exclusive x = 0": ("01 01 01", "ldar excl x=0"),
+             "str x = 0": ("02 00 00", "str x=0"), "stlr x = 0": ("02 02 00", "stlr x=0"),
+             "dmb ld": ("03 05 00", "dmb ld"), "dmb sy": ("03 06 00", "dmb sy"), "isb": ("03 07 00", "isb")},
 }
 
 # Wrong texts.
 
 SOURCE_EVENTS = ("read relaxed, read relaxed exclusive, read acquire, read acquire exclusive, write relaxed, write relaxed strong, "
                  "write release, write release strong, fence acquire, fence release, fence acquire-release, fence sc")
-CHIP_EVENTS = "ldr, ldr exclusive, ldar, ldar exclusive, str, stlr, dmb ld, dmb sy"
+CHIP_EVENTS = "ldr, ldr exclusive, ldar, ldar exclusive, str, stlr, dmb ld, dmb sy, isb"
 HELD = "; a read or write has a location and a value, as x = 0"
 NO_EVENT = "a source recording has no event {!r}; it has " + SOURCE_EVENTS + HELD
 FORM = ("no line of a recording has this form: {!r}; a line is as `source locations x y`, `thread 1`, `3: read acquire x = 1`, `rf 1 -> 3`, "
@@ -68,10 +77,12 @@ WRONG = [  # a text, the line that is wrong, what is said
     ("source\n1: fence sc\n", 2, "an event above the first thread"), (ONE + "1: fence sc\n", 4, "event 1 stands above"),
     (ONE + "\n3: fence sc\n", 5, "event 3, but 2 events are numbered 1 to 2"), (ONE + "0: fence sc\n", 4, "event 0, but 2 events are numbered 1 to 2"),
     (ONE + "2: read aquire x = 1\n", 4, NO_EVENT.format("read aquire")), (ONE + "2: ldar x = 1\n", 4, NO_EVENT.format("ldar")),
-    (ONE + "2: dmb sy\n", 4, NO_EVENT.format("dmb sy")), (ONE + "2: read strong x = 1\n", 4, NO_EVENT.format("read strong")),
-    (ONE + "2: read relaxed x\n", 4, NO_EVENT.format("read relaxed x")),
+    (ONE + "2: dmb sy\n", 4, NO_EVENT.format("dmb sy")), (ONE + "2: isb\n", 4, NO_EVENT.format("isb")),
+    (ONE + "2: read strong x = 1\n", 4, NO_EVENT.format("read strong")), (ONE + "2: read relaxed x\n", 4, NO_EVENT.format("read relaxed x")),
     ("chip locations x\nthread 1\n1: stlr strong x = 1\n", 3, "a chip recording has no event 'stlr strong'; it has " + CHIP_EVENTS + HELD),
+    ("chip\nthread 1\n1: isb sy\n", 3, "a chip recording has no event 'isb sy'; it has " + CHIP_EVENTS + HELD),
     (ONE + "2: fence sc x = 0\n", 4, "a fence has no location and no value"),
+    ("chip locations x\nthread 1\n1: isb x = 0\n", 3, "a fence has no location and no value"),
     (ONE + "2: read acquire\n", 4, "a read or write has a location and a value, as read acquire x = 0"),
     (ONE + "2: read relaxed z = 1\n", 4, LOCATION.format("z")), (ONE + "2: read relaxed xy = 1\n", 4, LOCATION.format("xy")),
     ("source\nthread 1\n1: read relaxed x = 1\n", 3, LOCATION.format("x").replace("has x y", "has none")),
@@ -99,6 +110,7 @@ WRONG = [  # a text, the line that is wrong, what is said
 EVENTS = ("source locations x y\nthread 1\n1: write relaxed x = 1\n2: read relaxed x = 1\n3: read relaxed exclusive x = 0\n4: write relaxed x = 2\n"
           "5: fence sc\n6: read relaxed exclusive y = 0\n7: write relaxed y = 1\nthread 2\n8: read relaxed y = 1\n9: write relaxed y = 1\n")
 CHIP = "chip locations x\nthread 1\n1: ldr x = 0\n2: ldr exclusive x = 0\n"
+ISB = "chip locations x\nthread 1\n1: ldr x = 0\n2: isb\n3: ldr x = 0\n"
 STRONG = "source locations x\nthread 1\n1: write release strong x = 1\n"
 REASONS = [  # a text, the reason why its recording is refused, or that it loads
     *((EVENTS + f"{link}\n", f"link 1 ({link}): {reason} (refusal 8)") for link, reason in [
@@ -126,6 +138,9 @@ REASONS = [  # a text, the reason why its recording is refused, or that it loads
         ("casdep 6 -> 3", "event 3 is not later than event 6 in its thread"),
     ]),
     (CHIP + "casdep 1 -> 2\n", "link 1 (casdep 1 -> 2): a chip recording has no casdep (refusal 8)"),
+    (ISB, "loads"), (ISB + "ctrl 1 -> 2\n", "loads"),
+    (ISB + "addr 1 -> 2\n", "link 1 (addr 1 -> 2): addr ends in a read or a write, and event 2 is a fence (refusal 8)"),
+    (ISB + "ctrl 2 -> 3\n", "link 1 (ctrl 2 -> 3): ctrl starts at a read, and event 2 is a fence (refusal 8)"),
     (EVENTS + "rf 7 -> 8\nrf 1 -> 2\nrf 9 -> 8\nco 1 -> 9\n", "event 8 has two rf sources: 7, 9 (refusal 8)"),
     (EVENTS.replace("= 1", "= 0") + "rf 7 -> 8\nrf 9 -> 8\nrf 57 -> 8\nchain 8: 3 1 2\n", "event 8 has 3 rf sources: init y, 7, 9 (refusal 8)"),
     (EVENTS + "co 9 -> 1\nrf 1 -> 3\n", "link 1 (co 9 -> 1): the source has location y, the target x (refusal 8)"),
@@ -157,11 +172,16 @@ BYTES = [  # a file, the reason why it is refused
     ("01 01 01 00 01 00 00 00    00 01 02 00 00 00 00 00", "event 1: a source recording has no class 1 with mode 2 and flag 0 (refusal 5)"),
     ("01 01 01 00 01 00 00 00    00 03 04 00 00 01 00 00", "event 1: a fence with a location or a value (refusal 5)"),
     ("01 01 01 00 01 00 00 00    00 01 00 00 01 00 00 00", "event 1: location 1, but there are 1 (refusal 5)"),
+    ("01 01 00 00 01 00 00 00    00 03 07 00 00 00 00 00", "event 1: a source recording has no class 3 with mode 7 and flag 0 (refusal 5)"),
+    ("02 01 00 00 01 00 00 00    00 03 07 01 00 00 00 00", "event 1: a chip recording has no class 3 with mode 7 and flag 1 (refusal 5)"),
+    ("02 01 00 00 01 00 00 00    00 03 08 00 00 00 00 00", "event 1: a chip recording has no class 3 with mode 8 and flag 0 (refusal 5)"),
+    ("02 01 02 00 01 00 00 00    00 03 07 00 01 00 00 00", "event 1: a fence with a location or a value (refusal 5)"),
+    ("02 01 02 00 01 00 00 00    00 03 07 00 00 00 01 00", "event 1: a fence with a location or a value (refusal 5)"),
     ("01 01 01 00 02 00 00 00    00 01 00 00 00 00 00 00", "a chain leads to event 2, but there are 1 (refusal 6)"),
     ("01 01 01 00 01 01 00 00    00 01 00 00 00 00 00 00", "event 1 is chained twice (refusal 6)"),
     ("01 01 01 00 00 00 00 00    00 01 00 00 00 00 00 00", "event 1 is in no chain (refusal 6)"),
     ("01 0d 00 00 01 00 00 00" + chained(13, 4), LONG.format(1, 13, "source", 12)),
-    ("02 13 00 00 00 00 00 01" + chained(19, 5), LONG.format(4, 19, "chip", 18)),
+    *(("02 13 00 00 00 00 00 01" + chained(19, mode), LONG.format(4, 19, "chip", 18)) for mode in (5, 7)),
     ("01 0f 00 00 0f 01 00 00" + chained(14, 4) + ALONE, LONG.format(2, 14, "source", 12)),
     ("01 0e 00 00 01 00 00 00" + chained(13, 4) + ALONE, "event 14 is in no chain (refusal 6)"),
     ("02 13 00 00 01 00 01 00" + chained(19, 5), "event 1 is chained twice (refusal 6)"),
