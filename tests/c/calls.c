@@ -208,6 +208,27 @@ static void stars(const char *name, const uint8_t *file, size_t length)
     expect(answer == coded(0, 0, size) && memcmp(got, wanted, size) == 0, name, "other stars for the file as a ring");
 }
 
+/* A chip file with its ARMv8 verdict and its line. */
+struct chip {
+    const char *name;
+    const uint8_t *file;
+    size_t length;
+    unsigned rule;
+    size_t shown;
+    const uint8_t *events;
+    const char *line;
+};
+
+static void chip(const struct chip *c)
+{
+    loads(c->name, c->file, c->length, 0);
+    refused(probe_imm, c->name, c->file, c->length, PROBE_OTHER_KIND);
+    refused(probe_translate, c->name, c->file, c->length, PROBE_OTHER_KIND);
+    at_each_room(probe_armv8, c->name, c->file, c->length, coded(0, c->rule, c->shown), c->events);
+    prints(c->name, c->file, c->length, c->line);
+    stars(c->name, c->file, c->length);
+}
+
 /* A source file with its IMM verdict, its translation, the ARMv8 verdict on that, and its lines. */
 struct source {
     const char *name;
@@ -233,13 +254,7 @@ static void source(const struct source *s)
     at_each_room(probe_translate, s->name, s->file, s->length, coded(0, 0, s->chip_length), s->chip);
     prints(s->name, s->file, s->length, s->lines);
     stars(s->name, s->file, s->length);
-
-    loads(s->name, s->chip, s->chip_length, 0);
-    refused(probe_imm, s->name, s->chip, s->chip_length, PROBE_OTHER_KIND);
-    refused(probe_translate, s->name, s->chip, s->chip_length, PROBE_OTHER_KIND);
-    at_each_room(probe_armv8, s->name, s->chip, s->chip_length, coded(0, s->chip_rule, s->chip_shown), s->chip_events);
-    prints(s->name, s->chip, s->chip_length, line);
-    stars(s->name, s->chip, s->chip_length);
+    chip(&(struct chip){s->name, s->chip, s->chip_length, s->chip_rule, s->chip_shown, s->chip_events, line});
 }
 
 #include "recordings.h"
@@ -248,6 +263,8 @@ int main(void)
 {
     for (size_t i = 0; i < sizeof sources / sizeof sources[0]; i++)
         source(&sources[i]);
+    for (size_t i = 0; i < sizeof chips / sizeof chips[0]; i++)
+        chip(&chips[i]);
     for (size_t i = 0; i < sizeof refusals / sizeof refusals[0]; i++)
         refused_by_all(refusals[i].name, refusals[i].file, refusals[i].length, refusals[i].cause);
     for (size_t i = 0; i < sizeof printouts / sizeof printouts[0]; i++)

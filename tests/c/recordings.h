@@ -1,6 +1,6 @@
-/* Recordings written out by hand: header, event records, link records, a line each. The source files with what is expected of them,
- * then files for each cause of refusal, in the order of the causes, and pages. The rings shown are the only ones of their length, and the
- * library shows a shortest one. */
+/* Recordings written out by hand: header, event records, link records, a line each. Source files and their translations, chip files with
+ * isb, then files for each cause of refusal, in the order of the causes; behind them what is expected of each, and pages. The rings shown
+ * are the only ones of their length, and the library shows a shortest one. */
 
 /* worked example */
 static const uint8_t worked[] = {
@@ -234,6 +234,33 @@ static const uint8_t forms[] = {
     0, 3, 4, 0,
 };
 
+/* message passing with dmb sy in thread 1, ctrl and isb in thread 2 */
+static const uint8_t ctrl_isb[] = {
+    2, 6, 2, 3, 1, 4, 0, 0,
+    2, 2, 0, 0, 0, 1, 0, 0,
+    3, 3, 6, 0, 0, 0, 0, 0,
+    0, 2, 0, 0, 1, 1, 0, 0,
+    5, 1, 0, 0, 1, 1, 0, 1,
+    6, 3, 7, 0, 0, 0, 0, 2,
+    0, 1, 0, 0, 0, 0, 0, 3,
+    0, 1, 3, 0,
+    0, 6, 4, 0,
+    0, 1, 56, 0,
+};
+
+/* the same without ctrl: an isb orders nothing by itself */
+static const uint8_t isb[] = {
+    2, 6, 2, 2, 1, 4, 0, 0,
+    2, 2, 0, 0, 0, 1, 0, 0,
+    3, 3, 6, 0, 0, 0, 0, 0,
+    0, 2, 0, 0, 1, 1, 0, 0,
+    5, 1, 0, 0, 1, 1, 0, 1,
+    6, 3, 7, 0, 0, 0, 0, 0,
+    0, 1, 0, 0, 0, 0, 0, 2,
+    0, 1, 3, 0,
+    0, 1, 56, 0,
+};
+
 /* under 8 bytes */
 static const uint8_t refused_1[] = {
     1, 0, 0, 0, 0, 0, 0,
@@ -258,6 +285,30 @@ static const uint8_t refused_4[] = {
 static const uint8_t refused_5[] = {
     1, 1, 1, 0, 1, 0, 0, 0,
     0, 0, 0, 0, 0, 0, 0, 0,
+};
+
+/* fence of mode 7, isb, in a source file */
+static const uint8_t refused_5_source_isb[] = {
+    1, 1, 0, 0, 1, 0, 0, 0,
+    0, 3, 7, 0, 0, 0, 0, 0,
+};
+
+/* isb with flag 1 */
+static const uint8_t refused_5_isb_flag[] = {
+    2, 1, 0, 0, 1, 0, 0, 0,
+    0, 3, 7, 1, 0, 0, 0, 0,
+};
+
+/* isb with a value */
+static const uint8_t refused_5_isb_value[] = {
+    2, 1, 0, 0, 1, 0, 0, 0,
+    0, 3, 7, 0, 0, 1, 0, 0,
+};
+
+/* fence of mode 8 in a chip file */
+static const uint8_t refused_5_mode_8[] = {
+    2, 1, 0, 0, 1, 0, 0, 0,
+    0, 3, 8, 0, 0, 0, 0, 0,
 };
 
 /* event on no thread */
@@ -414,6 +465,11 @@ static const struct source sources[] = {
      "chip allowed\n"},
 };
 
+static const struct chip chips[] = {
+    {"message passing with dmb sy, ctrl and isb", SIZED(ctrl_isb), 5, 4, EVENTS(1, 3, 4, 6), "chip broken 5 1 3 4 6\n"},
+    {"message passing with dmb sy and isb", SIZED(isb), 0, 8, EVENTS(2, 5, 6, 1, 56, 57, 3, 4), "chip allowed 2 5 6 1 56 57 3 4\n"},
+};
+
 static const struct {
     const char *name;
     const uint8_t *file;
@@ -425,6 +481,10 @@ static const struct {
     {"33 events in a source file", SIZED(refused_3), 3},
     {"no record of the one event", SIZED(refused_4), 4},
     {"class 0", SIZED(refused_5), 5},
+    {"isb in a source file", SIZED(refused_5_source_isb), 5},
+    {"isb with flag 1", SIZED(refused_5_isb_flag), 5},
+    {"isb with a value", SIZED(refused_5_isb_value), 5},
+    {"fence of mode 8 in a chip file", SIZED(refused_5_mode_8), 5},
     {"event on no thread", SIZED(refused_6), 6},
     {"13 events of a thread, and an event on no thread", SIZED(refused_6_not_13), 6},
     {"13 events of a thread in a source file", SIZED(refused_13), 13},
@@ -447,6 +507,10 @@ static const struct printout printouts[] = {
      " 1 W00 0     1 *    " " 4 W00 1     1 *    " BLANK BLANK "\n"
      " 2 F60              " " 5 F60              " BLANK BLANK "\n"
      " 3 R00 1     0 *    " " 6 R00 0     0 *    " BLANK BLANK "\n"},
+    {"message passing with dmb sy, ctrl and isb", SIZED(ctrl_isb), 5, EVENTS(1, 3, 4, 6, 5),
+     " 1 W00 0     1 *    " " 4 R00 1     1 *    " BLANK BLANK "\n"
+     " 2 F60              " " 5 F70         *    " BLANK BLANK "\n"
+     " 3 W00 1     1 *    " " 6 R00 0     0 *    " BLANK BLANK "\n"},
     {"every form of a block, with a ring that holds much else", SIZED(forms), 12, EVENTS(255, 0, 9, 12, 13, 2, 12, 55, 56, 63, 64, 128),
      " 3 W20 0     7      " BLANK " 2 F30         *    " "11 R01 5    99      \n"
      " 1 R10 7 65535      " BLANK BLANK                  " 4 R11 3   255      \n"
