@@ -15,6 +15,7 @@ pub fn cases() -> Vec<Case> {
     lengths(&mut cases);
     meetings(&mut cases);
     long_meetings(&mut cases);
+    barrier_meetings(&mut cases);
     boundary_events::add(&mut cases);
     boundary_threads::add(&mut cases);
     boundary_links::add(&mut cases);
@@ -242,5 +243,18 @@ fn long_meetings(cases: &mut Cases) {
             let all = order[from..].iter().rev().fold(long(kind), |f, &cause| with_cause(&f, cause));
             cases.add(format!("kind {kind}, cause {} and all that are tried after it", order[from]), all, order[from]);
         }
+    }
+}
+
+/// The long chip file with a fence of some mode for the first event of thread 4. An isb is no fault, so that any other cause is found;
+/// the mode after it is cause 5, before all that are tried later.
+fn barrier_meetings(cases: &mut Cases) {
+    let fenced = |mode: u8| set(&long(2), &[(in_event(5, CLASS), 3), (in_event(5, MODE), mode), (in_event(5, VALUE_LOW), 0)]);
+    cases.add("the long chip file with an isb", fenced(7), 0);
+    cases.add("the long chip file with the mode after isb", fenced(8), 5);
+    for &cause in &ORDER[..10] {
+        cases.add(format!("an isb and cause {cause}"), with_cause(&fenced(7), cause), cause);
+        let first = if cause < 5 { cause } else { 5 };
+        cases.add(format!("the mode after isb and cause {cause}"), with_cause(&fenced(8), cause), first);
     }
 }

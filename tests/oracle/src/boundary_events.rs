@@ -15,14 +15,14 @@ fn single(kind: u8, locations: u8, class: u8, mode: u8, flag: u8, location: u8, 
     file(kind, locations, [1, 0, 0, 0], &[event], &[])
 }
 
-/// The table of classes, modes and flags in 01: for each kind and class the legal modes and flags.
+/// The table of classes, modes and flags in 01, with 02's isb: for each kind and class the legal modes and flags.
 const TABLE: [(u8, u8, &[u8], &[u8]); 6] = [
     (1, 1, &[0, 1], &[0, 1]),
     (1, 2, &[0, 2], &[0, 1]),
     (1, 3, &[1, 2, 3, 4], &[0]),
     (2, 1, &[0, 1], &[0, 1]),
     (2, 2, &[0, 2], &[0]),
-    (2, 3, &[5, 6], &[0]),
+    (2, 3, &[5, 6, 7], &[0]),
 ];
 
 /// Every class, and for each class every mode with flag 0 and every flag with a legal mode.
@@ -56,7 +56,6 @@ fn labels(cases: &mut Cases) {
 /// Locations and values.
 fn places(cases: &mut Cases) {
     for kind in [1, 2] {
-        let fence = if kind == 1 { 4 } else { 6 };
         for (class, name) in [(1, "read"), (2, "write")] {
             for (locations, location, expected) in [
                 (0, 0, 5),
@@ -80,15 +79,18 @@ fn places(cases: &mut Cases) {
                 cases.add(label, single(kind, 1, class, 0, 0, 0, value), 0);
             }
         }
+    }
+    // A fence has none; one of each kind, and isb.
+    for (kind, fence) in [(1, 4), (2, 6), (2, 7)] {
         for locations in [0, 1, 8] {
-            let label = |what: &str| format!("kind {kind}, L {locations}, fence {what}");
-            cases.add(label("of location and value 0"), single(kind, locations, 3, fence, 0, 0, [0, 0]), 0);
-            cases.add(label("of location 1"), single(kind, locations, 3, fence, 0, 1, [0, 0]), 5);
-            cases.add(label("of location 255"), single(kind, locations, 3, fence, 0, 255, [0, 0]), 5);
-            cases.add(label("of value 1"), single(kind, locations, 3, fence, 0, 0, [1, 0]), 5);
-            cases.add(label("of value 255"), single(kind, locations, 3, fence, 0, 0, [255, 0]), 5);
-            cases.add(label("of value 256"), single(kind, locations, 3, fence, 0, 0, [0, 1]), 5);
-            cases.add(label("of value 65535"), single(kind, locations, 3, fence, 0, 0, [255, 255]), 5);
+            let label = |what: &str| format!("kind {kind}, L {locations}, fence of mode {fence}, {what}");
+            cases.add(label("location and value 0"), single(kind, locations, 3, fence, 0, 0, [0, 0]), 0);
+            cases.add(label("location 1"), single(kind, locations, 3, fence, 0, 1, [0, 0]), 5);
+            cases.add(label("location 255"), single(kind, locations, 3, fence, 0, 255, [0, 0]), 5);
+            cases.add(label("value 1"), single(kind, locations, 3, fence, 0, 0, [1, 0]), 5);
+            cases.add(label("value 255"), single(kind, locations, 3, fence, 0, 0, [255, 0]), 5);
+            cases.add(label("value 256"), single(kind, locations, 3, fence, 0, 0, [0, 1]), 5);
+            cases.add(label("value 65535"), single(kind, locations, 3, fence, 0, 0, [255, 255]), 5);
         }
     }
     cases.add("a fence where L is 0, in bytes", bytes("01 01 00 00 01 00 00 00 | 00 03 04 00 00 00 00 00"), 0);
@@ -115,8 +117,13 @@ fn two_events(cases: &mut Cases) {
         cases.add(format!("kind {kind}, second event: a fence"), fenced.clone(), 0);
         let valued = set(&fenced, &[(in_event(2, VALUE_HIGH), 1)]);
         cases.add(format!("kind {kind}, second event: a fence of value 256"), valued, 5);
+        let barrier = set(&fenced, &[(in_event(2, MODE), 7)]);
+        cases.add(format!("kind {kind}, second event: isb"), barrier.clone(), if kind == 1 { 5 } else { 0 });
+        let beyond = set(&barrier, &[(in_event(2, MODE), 8)]);
+        cases.add(format!("kind {kind}, second event: a fence of the mode after isb"), beyond, 5);
     }
     cases.add("a chip fence mode in a source file", single(1, 0, 3, 6, 0, 0, [0, 0]), 5);
+    cases.add("isb in a source file", single(1, 0, 3, 7, 0, 0, [0, 0]), 5);
     cases.add("a source fence mode in a chip file", single(2, 0, 3, 4, 0, 0, [0, 0]), 5);
 }
 

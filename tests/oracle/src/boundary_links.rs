@@ -6,6 +6,7 @@ pub fn add(cases: &mut Cases) {
     chains(cases);
     conditions(cases);
     changed_events(cases);
+    barrier_links(cases);
 }
 
 /// 1 R x; 2 R x; 3 fence in one thread. All links are ctrl from 1; their targets follow from the chains.
@@ -280,5 +281,44 @@ fn changed_events(cases: &mut Cases) {
         let write = [0, 2, 0, 0, location, 5, 0];
         let name = format!("co from {source} into location {location} with L 8");
         cases.add(name, file(2, 8, [0, 0, 0, 1], &[write], &[(2, source, 1)]), expected);
+    }
+}
+
+/// Links of every type into an isb and out of it, in the chip file of `linked` with 5 for the isb:
+/// only ctrl from a po-earlier read may end in it, and none may start in it.
+fn barrier_links(cases: &mut Cases) {
+    let barrier = |link: LinkEnds| set(&linked(2, &[link]), &[(in_event(5, MODE), 7)]);
+    const INTO: [(u8, &str); 8] = [
+        (1, "a read"),
+        (2, "an exclusive read"),
+        (3, "a write"),
+        (4, "the write directly before"),
+        (5, "itself"),
+        (6, "a po-later write"),
+        (8, "a read of another thread"),
+        (56, "the initial write"),
+    ];
+    const OUT_OF: [(u8, &str); 5] = [
+        (2, "a po-earlier exclusive read"),
+        (4, "the write directly before"),
+        (6, "the write directly behind"),
+        (8, "a read of another thread"),
+        (11, "a write of another thread"),
+    ];
+    for (t, name) in (0..).zip(NAMES) {
+        for (source, what) in INTO {
+            let expected = if t == 6 && (source == 1 || source == 2) { 0 } else { 8 };
+            cases.add(format!("{name} into an isb from {what}"), barrier((t, source, 5)), expected);
+        }
+        for (target, what) in OUT_OF {
+            cases.add(format!("{name} out of an isb into {what}"), barrier((t, 5, target)), 8);
+        }
+        // The event directly before is an exclusive read, the one directly behind a read.
+        let reads = [(in_event(4, CLASS), 1), (in_event(4, FLAG), 1), (in_event(6, CLASS), 1)];
+        let expected = if t == 6 { 0 } else { 8 };
+        let into = set(&barrier((t, 4, 5)), &reads);
+        cases.add(format!("{name} into an isb from the exclusive read directly before"), into, expected);
+        let out_of = set(&barrier((t, 5, 6)), &reads);
+        cases.add(format!("{name} out of an isb into the read directly behind"), out_of, 8);
     }
 }

@@ -133,7 +133,7 @@ fn numberings(cases: &mut Cases) {
 
 /// Every class and mode counts, fences too; initial writes do not.
 fn classes(cases: &mut Cases) {
-    let sorts: [(u8, u8, u8); 14] = [
+    let sorts: [(u8, u8, u8); 15] = [
         (1, 1, 0),
         (1, 1, 1),
         (1, 2, 0),
@@ -148,6 +148,7 @@ fn classes(cases: &mut Cases) {
         (2, 2, 2),
         (2, 3, 5),
         (2, 3, 6),
+        (2, 3, 7),
     ];
     for (kind, class, mode) in sorts {
         let limit = thread_limit(kind);

@@ -33,6 +33,7 @@ mod shaped;
 mod shown;
 mod translation;
 mod worked;
+mod worked_isb;
 mod worked_pages;
 
 use handmade::{bytes, outcome};

@@ -1,7 +1,7 @@
 //! The two models, line by line in the order and with the names of document 003.
 
 use crate::execution::Execution;
-use crate::recording::{FENCE, READ, WRITE};
+use crate::recording::{FENCE, ISB, READ, WRITE};
 use crate::relation::*;
 
 /// xe, the external part of a relation: not within po (003, section 3).
@@ -99,7 +99,7 @@ impl Imm {
     }
 }
 
-/// ARMv8, section 4.2 with appendix C, and 01's "The ARMv8 verdict".
+/// ARMv8, section 4.2 with appendix C, 01's "The ARMv8 verdict", and isb of 02's slip 3.
 pub struct Armv8 {
     /// po|loc ∪ rf ∪ fr ∪ co
     pub per_location: Relation,
@@ -115,6 +115,7 @@ pub fn armv8(x: &Execution) -> Armv8 {
     let w_ex = x.on(|e| x.numbers.iter().any(|&read| rmw.has(read, e.number)));
     let f_ld = x.on(|e| e.class == FENCE && e.mode == 5);
     let f_sy = x.on(|e| e.class == FENCE && e.mode == 6);
+    let f_isb = x.on(|e| e.class == FENCE && e.mode == ISB);
     let fr = seq(&[&inverse(rf), co]);
     let rfe = external(rf, x);
     let rfi = internal(rf, x);
@@ -124,11 +125,13 @@ pub fn armv8(x: &Execution) -> Armv8 {
 
     // C: obs ≜ rfe ∪ fre ∪ coe
     let obs = union(&[&rfe, &fre, &coe]);
-    // C: dob ≜ (addr ∪ data);rfi? ∪ (ctrl ∪ data);[W];coi? ∪ addr;po;[W]
+    // C: dob ≜ (addr ∪ data);rfi? ∪ (ctrl ∪ data);[W];coi? ∪ addr;po;[W],
+    // and from ARM's model, asked for in 02's slip 3: (ctrl ∪ addr;po);[Fisb];po;[R]
     let dob = union(&[
         &seq(&[&union(&[addr, data]), &opt(&rfi)]),
         &seq(&[&union(&[ctrl, data]), &w, &opt(&coi)]),
         &seq(&[addr, po, &w]),
+        &seq(&[&union(&[ctrl, &seq(&[addr, po])]), &f_isb, po, &r]),
     ]);
     // C: aob ≜ rmw ∪ [Wex];rfi;[RQ]
     let aob = union(&[rmw, &seq(&[&w_ex, &rfi, &r_q])]);

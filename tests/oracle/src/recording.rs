@@ -10,6 +10,9 @@ pub const READ: u8 = 1;
 pub const WRITE: u8 = 2;
 pub const FENCE: u8 = 3;
 
+/// The mode of a chip fence that is an instruction barrier (02, slip 3).
+pub const ISB: u8 = 7;
+
 pub const RF: u8 = 1;
 pub const CO: u8 = 2;
 pub const RMW: u8 = 3;
@@ -117,14 +120,14 @@ fn decode_link(b: &[u8]) -> Link {
     Link { next: b[0], link_type: b[1], source: b[2], last: b[3] }
 }
 
-/// Cause 5 does not apply: class, mode and flag stand in 01's table, the location is below L,
+/// Cause 5 does not apply: class, mode and flag stand in 01's table, with isb among the chip fences, the location is below L,
 /// and a fence has location and value 0.
 fn event_as_listed(kind: u8, locations: u8, e: &Event) -> bool {
     let modes: &[u8] = match (kind, e.class) {
         (_, READ) => &[0, 1],
         (_, WRITE) => &[0, 2],
         (SOURCE, FENCE) => &[1, 2, 3, 4],
-        (CHIP, FENCE) => &[5, 6],
+        (CHIP, FENCE) => &[5, 6, ISB],
         _ => return false,
     };
     let flags: &[u8] = match (kind, e.class) {

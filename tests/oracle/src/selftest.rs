@@ -16,6 +16,7 @@ use crate::relation::*;
 use crate::shown::{answer, fault};
 use crate::translation::translate;
 use crate::worked;
+use crate::worked_isb;
 use crate::worked_pages::PAGES;
 
 struct Tally {
@@ -53,13 +54,13 @@ pub fn run() -> bool {
     let [(_, file, expected), ..] = worked::ANSWERS;
     let printed = answer(&bytes(file)).replace(';', "\n");
     tally.test("the two lines of 01", printed == expected.replace(';', "\n"), || printed.clone());
-    for (name, text, expected) in worked::ANSWERS {
+    for (name, text, expected) in worked::ANSWERS.into_iter().chain(worked_isb::ANSWERS) {
         let file = bytes(text);
         let why = fault(&file, expected);
         tally.test(name, why.is_none(), || format!("{why:?}; ours {}", answer(&file)));
         tally.test(name, fault(&file, &answer(&file)).is_none(), || answer(&file));
     }
-    for (name, text, wrong) in worked::WRONG {
+    for (name, text, wrong) in worked::WRONG.into_iter().chain(worked_isb::WRONG) {
         tally.test(name, fault(&bytes(text), wrong).is_some(), || format!("taken for right: {wrong}"));
     }
     let got = translate(&bytes(worked::TRANSLATION_FROM));

@@ -17,7 +17,7 @@ const LONG_RING: [u8; 300] = {
     ring
 };
 
-pub const PAGES: [Page; 8] = [
+pub const PAGES: [Page; 9] = [
     Page { name: "no event, source", file: "01 00 00 00 00 00 00 00", ring: &[], lines: &[] },
     Page { name: "no event, chip", file: "02 00 08 00 00 00 00 00", ring: &[0, 1, 56], lines: &[] },
     // 1 W x 1; 2 W release y 1 || 3 R acquire y 1; 4 R x 0
@@ -90,6 +90,24 @@ pub const PAGES: [Page; 8] = [
             "                     4 R11 0     9       1 F50                                  ",
             "                     3 W20 0    99 *                                            ",
             "                     2 F60                                                      ",
+        ],
+    },
+    // 10 dmb sy; 1 isb || 3 ldar y 256; 12 isb; 2 R x 0 || 11 isb || 9 isb; 8 dmb ld; 7 isb; 6 stlr x 1; 5 isb; 4 isb. ctrl 3 to 12.
+    Page {
+        name: "isb, alone in a thread, first, last and between",
+        file: "02 0c 02 01 0a 03 0b 09
+             | 00 03 07 00 00 00 00 00 | 00 01 00 00 00 00 00 00 | 0c 01 01 00 01 00 01 00 | 00 03 07 00 00 00 00 00
+             | 04 03 07 00 00 00 00 00 | 05 02 02 00 00 01 00 00 | 06 03 07 00 00 00 00 00 | 07 03 05 00 00 00 00 00
+             | 08 03 07 00 00 00 00 00 | 01 03 06 00 00 00 00 00 | 00 03 07 00 00 00 00 00 | 02 03 07 00 00 00 00 01
+             | 00 06 03 00",
+        ring: &[12, 11, 6, 4],
+        lines: &[
+            "10 F60               3 R10 1   256      11 F70         *     9 F70              ",
+            " 1 F70              12 F70         *                         8 F50              ",
+            "                     2 R00 0     0                           7 F70              ",
+            "                                                             6 W20 0     1 *    ",
+            "                                                             5 F70              ",
+            "                                                             4 F70         *    ",
         ],
     },
     // 18 to 1 dmb sy || none || 19 dmb ld || none
