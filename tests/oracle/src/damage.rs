@@ -95,11 +95,11 @@ fn damage_draft(random: &mut Random, draft: &mut Draft) {
                 0 => event.value ^= random.pick(&[1, 256]),
                 1 => event.location = random.below(locations + 1) as u8,
                 2 => event.class = random.between(0, 4) as u8,
-                _ => event.mode = random.between(0, 7) as u8,
+                _ => event.mode = random.between(0, 8) as u8,
             }
         }
         // The other kind.
-        12 => other_kind(draft),
+        12 => other_kind(random, draft),
         // Two events of a thread exchanged.
         _ => {
             let thread = random.below(4);
@@ -114,12 +114,12 @@ fn damage_draft(random: &mut Random, draft: &mut Draft) {
 
 /// Makes a source draft a chip draft or the other way, fences and strong writes with it.
 /// What may then stand against loading: N, M or a thread over the limit, or casdep.
-fn other_kind(draft: &mut Draft) {
+fn other_kind(random: &mut Random, draft: &mut Draft) {
     draft.kind = if draft.kind == SOURCE { CHIP } else { SOURCE };
     for e in &mut draft.events {
         match (draft.kind, e.class) {
-            (CHIP, FENCE) => e.mode = if e.mode == 1 { 5 } else { 6 },
-            (SOURCE, FENCE) => e.mode = if e.mode == 5 { 1 } else { 4 },
+            (CHIP, FENCE) => e.mode = if e.mode == 1 { 5 } else { random.pick(&[6, ISB]) },
+            (SOURCE, FENCE) => e.mode = if e.mode == 5 { 1 } else { random.pick(&[2, 3, 4]) },
             (CHIP, WRITE) => e.flag = 0,
             _ => {}
         }

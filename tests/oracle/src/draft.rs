@@ -37,6 +37,10 @@ impl Draft {
         &mut self.events[n as usize - 1]
     }
 
+    pub fn is_isb(&self, n: u8) -> bool {
+        self.event(n).class == FENCE && self.event(n).mode == ISB
+    }
+
     pub fn most_links(&self) -> usize {
         if self.kind == SOURCE { 200 } else { 255 }
     }

@@ -217,7 +217,7 @@ impl Filling {
 }
 
 pub fn fence_mode(random: &mut Random, kind: u8) -> u8 {
-    let modes: &[u8] = if kind == SOURCE { &[1, 2, 3, 4] } else { &[5, 6] };
+    let modes: &[u8] = if kind == SOURCE { &[1, 2, 3, 4] } else { &[5, 6, ISB] };
     random.pick(modes)
 }
 

@@ -53,7 +53,7 @@ pub fn co_of(random: &mut Random, draft: &mut Draft, location: u8, coherence: &[
     }
 }
 
-/// data, addr, ctrl and casdep links along program order, about `percent` of those between neighbours.
+/// data, addr, ctrl and casdep links along program order, about `percent` of those between neighbours; ctrl into an isb more often.
 pub fn dependencies(random: &mut Random, draft: &mut Draft, percent: usize) {
     let near = random.chance(50);
     for thread in draft.threads.clone() {
@@ -67,6 +67,7 @@ pub fn dependencies(random: &mut Random, draft: &mut Draft, percent: usize) {
                     let wanted = match link_type {
                         DATA if draft.has_link(RMW, from, to) => 40,
                         CASDEP => 10 + percent / reach,
+                        CTRL if draft.is_isb(to) => 20 + percent / reach,
                         CTRL => percent / (2 * reach),
                         _ => percent / reach,
                     };

@@ -16,6 +16,9 @@ enum Family {
     Any,
     /// Any edges, with a full fence in each thread.
     Fenced,
+    /// Chip only. rf into a thread and fr out of it, once or twice, and any other edges. Behind a first read there is an isb
+    /// with a dependency, or something near it; threads that begin with a write have a full fence.
+    Isb,
 }
 
 /// An edge goes from the last access of a thread to the first access of the next thread.
@@ -27,14 +30,13 @@ enum Edge {
 }
 
 pub fn ring_shaped(random: &mut Random, kind: u8, theme: &Theme) -> Draft {
-    let threads = random.pick(&[2, 2, 2, 3, 3, 4]);
-    let family = random.pick(&[Family::ReadsFrom, Family::Any, Family::Fenced]);
-    let edges: Vec<Edge> = (0..threads)
-        .map(|_| match family {
-            Family::ReadsFrom => Edge::Rf,
-            _ => random.pick(&[Edge::Rf, Edge::Fr, Edge::Co]),
-        })
-        .collect();
+    let families: &[Family] = match kind {
+        SOURCE => &[Family::ReadsFrom, Family::Any, Family::Fenced],
+        _ => &[Family::ReadsFrom, Family::Any, Family::Fenced, Family::Isb, Family::Isb],
+    };
+    let family = random.pick(families);
+    let edges = edges(random, family);
+    let threads = edges.len();
 
     let mut ring = Shaped::new(kind);
     // The ring is closed in the location that it starts in.
@@ -47,14 +49,18 @@ pub fn ring_shaped(random: &mut Random, kind: u8, theme: &Theme) -> Draft {
         let first_class = if into == Edge::Rf { READ } else { WRITE };
         let last_class = if edges[thread] == Edge::Fr { READ } else { WRITE };
         let flag = (first_class == READ && random.chance(theme.exclusive)) as u8;
-        let first = ring.event(thread, first_class, mode_of(random, first_class, theme), flag, location);
+        // What is to be ordered by an isb is mostly not ordered by itself.
+        let relaxed = family == Family::Isb && random.chance(75);
+        let mode = if relaxed { 0 } else { mode_of(random, first_class, theme) };
+        let first = ring.event(thread, first_class, mode, flag, location);
         if thread == 0 {
             start_event = first;
         } else {
             ring.orders[location as usize].push(first);
         }
-        // At times one access is first and last.
-        if thread > 0 && first_class == last_class && random.chance(40) {
+        // At times one access is first and last, but no read that an isb may stand behind.
+        let single = first_class == last_class && !(family == Family::Isb && first_class == READ);
+        if thread > 0 && single && random.chance(40) {
             last_of_thread.push(first);
             continue;
         }
@@ -96,22 +102,48 @@ pub fn ring_shaped(random: &mut Random, kind: u8, theme: &Theme) -> Draft {
     ring.finish(random, theme)
 }
 
+/// The edge out of each thread.
+fn edges(random: &mut Random, family: Family) -> Vec<Edge> {
+    let threads = random.pick(if family == Family::Isb { &[2, 2, 3, 4, 4, 4] } else { &[2, 2, 2, 3, 3, 4] });
+    let mut edges: Vec<Edge> = (0..threads)
+        .map(|_| match family {
+            Family::ReadsFrom => Edge::Rf,
+            _ => random.pick(&[Edge::Rf, Edge::Fr, Edge::Co]),
+        })
+        .collect();
+    if family == Family::Isb {
+        // One thread from a read to a read, or two.
+        let places = random.between(1, 2);
+        edges.chunks_exact_mut(2).take(places).for_each(|pair| pair.copy_from_slice(&[Edge::Rf, Edge::Fr]));
+        edges.rotate_left(random.below(threads));
+    }
+    edges
+}
+
 /// Something between the first and the last access of a thread.
 fn inside(random: &mut Random, ring: &mut Shaped, thread: usize, first: u8, theme: &Theme, family: Family) {
     let kind = ring.draft.kind;
     let first_reads = ring.draft.event(first).class == READ;
     // Room is kept for what is to come: at most 8 locations and 32 events.
-    if ring.orders.len() >= 5 || ring.draft.events.len() >= 20 {
+    let has_location = ring.orders.len() < 5;
+    if ring.draft.events.len() >= 20 || !has_location && family != Family::Isb {
         return;
     }
-    if family == Family::Fenced {
+    if family == Family::Fenced || family == Family::Isb && !first_reads {
         ring.event(thread, FENCE, if kind == SOURCE { 4 } else { 6 }, 0, 0);
+        return;
+    }
+    if family == Family::Isb {
+        isb(random, ring, thread, first, has_location);
         return;
     }
     match random.below(9) {
         0..=1 => {
             let mode = fence_mode(random, kind);
-            ring.event(thread, FENCE, mode, 0, 0);
+            let fence = ring.event(thread, FENCE, mode, 0, 0);
+            if mode == ISB && first_reads && random.chance(60) {
+                ring.draft.add_link(CTRL, first, fence);
+            }
         }
         // A write that depends on the first read, and a read of it in the same thread.
         2 => {
@@ -164,6 +196,48 @@ fn inside(random: &mut Random, ring: &mut Shaped, thread: usize, first: u8, them
             ring.join(random, first, write, theme);
         }
         _ => {}
+    }
+}
+
+/// An isb behind the first read of a thread that orders what is read behind it, or something that lacks one element of that.
+/// An access goes with it only where there is a location for one.
+fn isb(random: &mut Random, ring: &mut Shaped, thread: usize, first: u8, has_location: bool) {
+    let barrier = |ring: &mut Shaped| ring.event(thread, FENCE, ISB, 0, 0);
+    let access = |ring: &mut Shaped, link_type: u8, class: u8| {
+        let location = ring.new_location();
+        let access = ring.event(thread, class, 0, 0, location);
+        ring.orders[location as usize].push(access);
+        ring.draft.add_link(link_type, first, access);
+    };
+    let class = random.pick(&[READ, WRITE]);
+    match random.below(if has_location { 13 } else { 3 }) {
+        // ctrl into the isb, or no dependency.
+        0..=1 => {
+            let to = barrier(ring);
+            ring.draft.add_link(CTRL, first, to);
+        }
+        2 => {
+            barrier(ring);
+        }
+        // ctrl or addr into an access before the isb.
+        3..=4 => {
+            access(ring, CTRL, class);
+            barrier(ring);
+        }
+        5..=7 => {
+            access(ring, ADDR, class);
+            barrier(ring);
+        }
+        // The isb comes too early, the dependency is another, there is no isb.
+        8..=9 => {
+            barrier(ring);
+            access(ring, ADDR, class);
+        }
+        10..=11 => {
+            access(ring, DATA, WRITE);
+            barrier(ring);
+        }
+        _ => access(ring, CTRL, class),
     }
 }
 

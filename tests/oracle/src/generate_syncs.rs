@@ -34,7 +34,7 @@ pub fn sync_shaped(random: &mut Random, kind: u8, theme: &Theme) -> Draft {
         another_write(random, &mut sync, thread, flag);
     }
 
-    // An acquire read of the flag, or a read and an acquire fence.
+    // An acquire read of the flag, or a read and an acquire fence; in a chip also ctrl and an isb.
     if thread == 0 || random.chance(50) {
         thread = random.between(1, 3);
     }
@@ -42,8 +42,11 @@ pub fn sync_shaped(random: &mut Random, kind: u8, theme: &Theme) -> Draft {
     let read = sync.event(thread, READ, acquire as u8, random.chance(theme.exclusive) as u8, flag);
     sync.orders[flag as usize].push(read);
     if !acquire && random.chance(80) {
-        let modes: &[u8] = if kind == SOURCE { &[1, 3, 4] } else { &[5, 6] };
-        sync.event(thread, FENCE, random.pick(modes), 0, 0);
+        let modes: &[u8] = if kind == SOURCE { &[1, 3, 4] } else { &[5, 6, ISB, ISB] };
+        let fence = sync.event(thread, FENCE, random.pick(modes), 0, 0);
+        if sync.draft.is_isb(fence) && random.chance(70) {
+            sync.draft.add_link(CTRL, read, fence);
+        }
     }
 
     // An access of the data that comes before the first one in the order of the location.

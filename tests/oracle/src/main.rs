@@ -24,6 +24,7 @@ mod page;
 #[path = "../../shared/random.rs"]
 mod random;
 mod reach;
+mod reach_isb;
 mod reach_pages;
 mod recording;
 mod relation;

@@ -25,7 +25,7 @@ impl PageReach {
         let (most, labels) = if kind == SOURCE {
             (12, "R00 R01 R10 R11 W00 W01 W20 W21 F10 F20 F30 F40")
         } else {
-            (18, "R00 R01 R10 R11 W00 W20 F50 F60")
+            (18, "R00 R01 R10 R11 W00 W20 F50 F60 F70")
         };
         PageReach {
             lines: (0..=most).collect(),

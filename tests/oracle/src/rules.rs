@@ -81,7 +81,7 @@ fn judge(
         let events = smallest_first(ring(x, &order, &none()));
         return Verdict { model, rule: Some(5), events, steps: order, closing: none() };
     }
-    fixed(None, smallest_available(x, &order))
+    fixed(None, smallest_available(x, &order).expect("an order without a ring has a first event"))
 }
 
 /// A ring of `steps`, or else a path of `steps` whose ends `closing` joins. The caller knows that there is one.
@@ -115,16 +115,16 @@ fn smallest_first(mut ring: Vec<u8>) -> Vec<u8> {
     ring
 }
 
-/// All events, always taking next the smallest number whose predecessors are out.
-fn smallest_available(x: &Execution, order: &Relation) -> Vec<u8> {
+/// All events, always taking next the smallest number whose predecessors are out; none where there is a ring.
+pub fn smallest_available(x: &Execution, order: &Relation) -> Option<Vec<u8>> {
     let mut out: Vec<u8> = Vec::new();
     while out.len() < x.numbers.len() {
         let next = x.numbers.iter().copied().find(|&e| {
             !out.contains(&e) && x.numbers.iter().all(|&p| !order.has(p, e) || out.contains(&p))
         });
-        out.push(next.expect("an order without a ring has a first event"));
+        out.push(next?);
     }
-    out
+    Some(out)
 }
 
 /// Why `ring` may not be shown for a verdict under rule 3 or 5, or nothing if it may.

@@ -10,6 +10,7 @@ use crate::litmus;
 use crate::page::page;
 use crate::random::Random;
 use crate::reach::{self, Reach};
+use crate::reach_isb;
 use crate::reach_pages::{of_pages, PageReach, SORTS};
 use crate::recording::{load, CHIP, SOURCE};
 use crate::relation::*;
@@ -76,6 +77,7 @@ pub fn run() -> bool {
     own_answers(&mut tally);
     generated_files(&mut tally);
     generated_pages(&mut tally);
+    generated_barriers(&mut tally);
     println!("{} passed, {} failed", tally.passed, tally.failed);
     tally.failed == 0
 }
@@ -175,11 +177,19 @@ fn generated_files(tally: &mut Tally) {
 fn generated_pages(tally: &mut Tally) {
     let mut random = Random::new(4);
     for kind in [SOURCE, CHIP] {
-        let (reached, sorts) = of_pages(&mut random, kind, 10_000);
+        let (reached, sorts) = of_pages(&mut random, kind, 20_000);
         let wanted = PageReach::limits(kind);
         tally.test("pages reach the limits", reached == wanted, || format!("kind {kind}: {reached:?}"));
         for (name, _) in SORTS {
             tally.test("drawn rings", sorts.contains(name), || format!("kind {kind}: never {name}"));
         }
+    }
+}
+
+/// Drawn chip recordings try both ways of the clause for isb, and many tell it from each wrong reading of it.
+fn generated_barriers(tally: &mut Tally) {
+    let found = reach_isb::of_chip_recordings(&mut Random::new(5), 20_000);
+    for (name, least, _) in reach_isb::SORTS {
+        tally.test("drawn isb", found[name] >= least, || format!("{name}: {} recordings, not {least}", found[name]));
     }
 }
