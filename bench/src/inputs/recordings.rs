@@ -69,7 +69,7 @@ fn put(random: &mut Random, draft: &mut Draft, events: &[usize]) {
 }
 
 fn fence(random: &mut Random, kind: u8) -> Event {
-    let modes: &[u8] = if kind == SOURCE { &[1, 2, 3, 4] } else { &[5, 6] };
+    let modes: &[u8] = if kind == SOURCE { &[1, 2, 3, 4] } else { &[5, 6, 7] };
     Event { class: FENCE, mode: random.pick(modes), ..Event::default() }
 }
 

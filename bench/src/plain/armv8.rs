@@ -26,11 +26,14 @@ fn ordered_before(x: &Execution, fre: &Relation) -> Relation {
     x.rfe.or(fre).or(&x.coe).or(&dependencies(x, &coi)).or(&atomics(x)).or(&barriers(x, &coi))
 }
 
-/// dob = (addr ∪ data) ; rfi? ∪ (ctrl ∪ data) ; [W] ; coi? ∪ addr ; po ; [W]
+/// dob = (addr ∪ data) ; rfi? ∪ (ctrl ∪ data) ; [W] ; coi? ∪ addr ; po ; [W] ∪ (ctrl ∪ addr ; po) ; [Fisb] ; po ; [R]
 fn dependencies(x: &Execution, coi: &Relation) -> Relation {
+    let [.., isb] = x.fence_modes;
     let read = x.addr.or(&x.data).then_optional(&x.rfi);
     let write = x.ctrl.or(&x.data).ending_in(x.writes).then_optional(coi);
-    read.or(&write).or(&x.addr.then(&x.po.ending_in(x.writes)))
+    let behind_address = x.addr.then(&x.po);
+    let behind_isb = x.ctrl.or(&behind_address).ending_in(isb).then(&x.po.ending_in(x.reads));
+    read.or(&write).or(&behind_address.ending_in(x.writes)).or(&behind_isb)
 }
 
 /// aob = rmw ∪ [codom(rmw)] ; rfi ; [Racq]
@@ -41,7 +44,7 @@ fn atomics(x: &Execution) -> Relation {
 
 /// bob = po ; [Fsy] ; po ∪ [R] ; po ; [Fld] ; po ∪ [Racq] ; po ∪ po ; [Wrel] ; coi? ∪ [Wrel] ; po ; [Racq]
 fn barriers(x: &Execution, coi: &Relation) -> Relation {
-    let [_, _, _, _, _, load, full] = x.fence_modes;
+    let [_, _, _, _, _, load, full, _] = x.fence_modes;
     let to_fence = x.po.ending_in(full).or(&x.po.starting_in(x.reads).ending_in(load));
     let release = x.po.ending_in(x.release_writes).then_optional(coi);
     let acquire = x.po.starting_in(x.release_writes).ending_in(x.acquire_reads);

@@ -14,7 +14,7 @@ pub struct Execution {
     pub release_writes: Set,
     pub strong_writes: Set,
     /// Fences by their mode.
-    pub fence_modes: [Set; 7],
+    pub fence_modes: [Set; 8],
     /// Reads and writes by their location.
     pub accesses: [Set; 8],
     pub po: Relation,
@@ -46,7 +46,7 @@ impl Execution {
             exclusive_reads: 0,
             release_writes: 0,
             strong_writes: 0,
-            fence_modes: [0; 7],
+            fence_modes: [0; 8],
             accesses: [0; 8],
             po: *po,
             po_loc: Relation::empty(),

@@ -30,7 +30,7 @@ fn is_coherent(x: &Execution, hb: &Relation, eco: &Relation) -> bool {
 
 /// sw = release ; (rfi ∪ po-loc? ; rfe) ; ([Racq] ∪ po ; [Facq])
 fn synchronizes_with(x: &Execution) -> Relation {
-    let [_, acquire, release, both, sc, _, _] = x.fence_modes;
+    let [_, acquire, release, both, sc, ..] = x.fence_modes;
     // rs = [W] ; po-loc ; [W] ∪ [W] ; (po-loc? ; rf ; rmw)*
     let pair = x.rf.then(&x.rmw);
     let pairs = x.po_loc.then(&pair).or(&pair).closure().or(&Relation::identity(x.events));

@@ -167,7 +167,7 @@ impl Recording {
             READ => e.mode <= 1 && e.flag <= 1 && e.location < self.locations,
             WRITE => (e.mode == 0 || e.mode == 2) && e.flag <= source as u8 && e.location < self.locations,
             FENCE => {
-                let modes = if source { 1..=4 } else { 5..=6 };
+                let modes = if source { 1..=4 } else { 5..=7 };
                 modes.contains(&e.mode) && e.flag == 0 && e.location == 0 && e.value == 0
             }
             _ => false,
