@@ -186,9 +186,10 @@ fn generated_pages(tally: &mut Tally) {
     }
 }
 
-/// Drawn chip recordings try both ways of the clause for isb, and many tell it from each wrong reading of it.
+/// Drawn chip recordings try both ways of the clause for isb, and many tell it from each wrong reading of it; an isb serves no other.
 fn generated_barriers(tally: &mut Tally) {
-    let found = reach_isb::of_chip_recordings(&mut Random::new(5), 20_000);
+    let (found, otherwise) = reach_isb::of_chip_recordings(&mut Random::new(5), 20_000);
+    tally.test("an isb serves its clause alone", otherwise == 0, || format!("{otherwise} recordings are answered otherwise"));
     for (name, least, _) in reach_isb::SORTS {
         tally.test("drawn isb", found[name] >= least, || format!("{name}: {} recordings, not {least}", found[name]));
     }
