@@ -126,7 +126,7 @@ pub fn armv8(x: &Execution) -> Armv8 {
     // C: obs ≜ rfe ∪ fre ∪ coe
     let obs = union(&[&rfe, &fre, &coe]);
     // C: dob ≜ (addr ∪ data);rfi? ∪ (ctrl ∪ data);[W];coi? ∪ addr;po;[W],
-    // and from ARM's model, asked for in 02's slip 3: (ctrl ∪ addr;po);[Fisb];po;[R]
+    // and, not in C but in ARM's model, from 02's slip 3: (ctrl ∪ addr;po);[Fisb];po;[R]
     let dob = union(&[
         &seq(&[&union(&[addr, data]), &opt(&rfi)]),
         &seq(&[&union(&[ctrl, data]), &w, &opt(&coi)]),
