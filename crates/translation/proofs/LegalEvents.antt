@@ -83,9 +83,9 @@ module _ (L class mode flag location value : ℕ) where
 new-fence : (s : Contents) (e : ℕ) → s .class e ≡ 3 → (newMode s e ≡ 5) ⊎ (newMode s e ≡ 6)
 new-fence s e c = elim (ℕ-discrete (s .mode e) 1) [ yes x ↦ inl (law.mode-acquire s e c x) | no x ↦ inr (law.mode-other s e c x) ]
 
-pub new-fences : (s : Contents) (e : ℕ) → translated s .class e ≡ 3 → (translated s .mode e ≡ 5) ⊎ (translated s .mode e ≡ 6)
+pub translated-fence : (s : Contents) (e : ℕ) → translated s .class e ≡ 3 → (translated s .mode e ≡ 5) ⊎ (translated s .mode e ≡ 6)
 unfolding translated
-new-fences s e c =
+translated-fence s e c =
     elim (decLe e (s .events)) [
       | yes g ↦ rw (law.kept s (newMode s) 5 e g) (new-fence s e (sym (law.kept s (s .class) 3 e g) ∙ c))
       | no n ↦ inl (law.made s (newMode s) 5 e (omega (arith, n)))

@@ -36,7 +36,7 @@ use Rattle.translation.proofs.TranslateLaws.{flagged-is, Linked, stays,
 use Rattle.translation.proofs.Says.{Says, Event, initially, recorded, event-says, flagged-says, encode-says}
 use Rattle.translation.proofs.SourceFacts as source
 use Rattle.translation.proofs.Bounds.{most-events, most-links, links-fit}
-use Rattle.translation.proofs.LegalEvents.{legalAt, legal-says, new-fences, fence-modes, write-flags, legal-new}
+use Rattle.translation.proofs.LegalEvents.{legalAt, legal-says, translated-fence, fence-modes, write-flags, legal-new}
 use Rattle.translation.proofs.LegalLinks as legality
 use Rattle.translation.proofs.Threads.{threads-fine, thread-translated}
 use Rattle.translation.proofs.Relates.{Sound, relates}
@@ -89,6 +89,7 @@ module _ (f : List ℕ) (s : Source f) where
   pub translated-relates : Translated S C
   translated-relates = relates S C old old-says chip-says sound
 
+  -- Its fences are dmb ld and dmb sy, so that none is an isb.
   pub without-isb : (e : ℕ) → T (member C Fisb e) → ⊥
   without-isb e h =
       let fence = mode-class C 3 7 e h in
@@ -96,7 +97,7 @@ module _ (f : List ℕ) (s : Source f) where
       let mode = mode-is C 3 7 e h in
       elim (event-says C (chip f) chip-says e (class-event C 3 e fence)) [
         | initially i j ↦ omega (arith, class, chip-says .initial-class e i)
-        | recorded i g ↦ elim (new-fences old e (sym (chip-says .class e i g) ∙ class)) [
+        | recorded i g ↦ elim (translated-fence old e (sym (chip-says .class e i g) ∙ class)) [
           | inl x ↦ omega (arith, x, chip-says .mode e i g, mode)
           | inr x ↦ omega (arith, x, chip-says .mode e i g, mode)
         ]
