@@ -12,7 +12,7 @@ fn lent(call: Function, file: &[u8], room: usize) -> (u64, Vec<u8>) {
 }
 
 /// Compares a call at full room, at the room that it needs, and with a byte less.
-fn call_differs(call: &Call, file: &[u8]) -> Option<String> {
+pub fn call_differs(call: &Call, file: &[u8]) -> Option<String> {
     let full = lent(call.plain, file, ROOM);
     let needed = written(full.0);
     for room in [ROOM, needed, needed.saturating_sub(1)] {

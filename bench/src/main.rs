@@ -7,6 +7,8 @@ mod check;
 #[path = "../../tests/shared/hex.rs"]
 mod hex;
 mod inputs;
+#[cfg(feature = "joins")]
+mod joins;
 mod library;
 mod measure;
 mod plain;
@@ -21,6 +23,8 @@ const USAGE: &str = "usage: bench COMMAND
   table                         the times of every group and call, after checking that both answer alike
   inputs                        the table's files, as lines GROUP<TAB>CALL<TAB>FILE
   one GROUP CALL REPEATS        the library alone, so many times on each file of a row
+  joins                         rows or-ed as one word beside byte by byte, where `bench/joins` built this program
+  joins WAY CALL                one of the two ways, `words` or `bytes`, once on each file
   check < FILES                 the library against the plain implementation; ends in `N passed, M failed`
   answer WORD < FILES           the plain implementation's answers; WORD is load, translate, judge or verdicts
   answer page < FILES_AND_RINGS the same of pages";
@@ -35,6 +39,10 @@ fn main() {
         ["table"] => table::print(),
         ["inputs"] => table::list(),
         ["one", group, call, repeats] => table::one(group, call, repeats),
+        #[cfg(feature = "joins")]
+        ["joins"] => joins::print(),
+        #[cfg(feature = "joins")]
+        ["joins", way, call] => joins::one(way, call),
         ["check"] => check_files(),
         ["answer", "load"] => answers(files().map(|file| answer::load(&file))),
         ["answer", "translate"] => answers(files().map(|file| answer::translate(&file))),

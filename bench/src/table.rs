@@ -1,29 +1,40 @@
 //! The table, the list of the files, and the library alone for a profiler.
 
-use crate::calls::ROOM;
+use crate::calls::{Function, ROOM};
 use crate::inputs::{rows, Row};
 use crate::measure::{measure, median, repeat, Times};
 use crate::{check, hex};
 use std::io::{self, Write};
 
-const HEADING: &str = "nanoseconds per call: the median over the files of each file's median, and the ratio of the two medians;
-sums is the ratio of the sums over the files, slowest the library's slowest file
-group            call      files     library     plain   ratio    sums     slowest";
+fn heading([first, second]: [&str; 2]) -> String {
+    format!(
+        "nanoseconds per call: the median over the files of each file's median, and the ratio of the two medians;
+sums is the ratio of the sums over the files, slowest the slowest file of the first column
+{:16} {:9} {:>5} {first:>11} {second:>9} {:>7} {:>7} {:>11}",
+        "group", "call", "files", "ratio", "sums", "slowest"
+    )
+}
+
+/// The library beside the plain implementation.
+pub fn print() -> io::Result<()> {
+    print_rows(&rows(), ["library", "plain"], |_, file| check::differs(file))
+}
 
 /// Checks that both answer all files alike, then prints the times.
-pub fn print() -> io::Result<()> {
-    let rows = rows();
+pub fn print_rows(rows: &[Row], names: [&str; 2], differs: fn(&Row, &[u8]) -> Option<String>) -> io::Result<()> {
     let mut compared = 0;
-    for file in rows.iter().flat_map(|row| &row.files) {
-        if let Some(why) = check::differs(file) {
-            return Err(io::Error::other(format!("{}\n  {why}", hex::to_hex(file))));
+    for row in rows {
+        for file in &row.files {
+            if let Some(why) = differs(row, file) {
+                return Err(io::Error::other(format!("{}\n  {why}", hex::to_hex(file))));
+            }
+            compared += 1;
         }
-        compared += 1;
     }
     let mut out = io::stdout().lock();
-    writeln!(out, "library and plain implementation answer alike on {compared} files (some stand in several rows)")?;
-    writeln!(out, "{HEADING}")?;
-    for row in &rows {
+    writeln!(out, "{} and {} answer alike on {compared} files (some stand in several rows)", names[0], names[1])?;
+    writeln!(out, "{}", heading(names))?;
+    for row in rows {
         writeln!(out, "{}", line(row, &measure(row)))?;
     }
     Ok(())
@@ -61,11 +72,15 @@ pub fn list() -> io::Result<()> {
 pub fn one(group: &str, call: &str, repeats: &str) -> io::Result<()> {
     let row = rows().into_iter().find(|row| row.group == group && row.call.name == call);
     let row = row.ok_or_else(|| io::Error::other(format!("no row {group} {call}; `inputs` lists them")))?;
+    repeat_row(&row, row.call.library, repeats)
+}
+
+pub fn repeat_row(row: &Row, function: Function, repeats: &str) -> io::Result<()> {
     let repeats = repeats.parse().map_err(|_| io::Error::other(format!("not a number: {repeats}")))?;
     let mut out = [0; ROOM];
     for file in &row.files {
-        repeat(row.call.library, file, &mut out, repeats);
+        repeat(function, file, &mut out, repeats);
     }
-    println!("{group} {call}: {} files, {repeats} calls each", row.files.len());
+    println!("{} {}: {} files, {repeats} calls each", row.group, row.call.name, row.files.len());
     Ok(())
 }

@@ -17,7 +17,7 @@ use Rattle.relation.specs.Bits.{on, bit}
 use Rattle.relation.specs.Ring.{under}
 
 -- What holds of the four pairs of binary digits holds of every pair.
-digit-pairs : (P : ℕ → ℕ → Type 0) → P 0 0 → P 0 1 → P 1 0 → P 1 1 → (u v : ℕ) → u < 2 → v < 2 → P u v
+pub digit-pairs : (P : ℕ → ℕ → Type 0) → P 0 0 → P 0 1 → P 1 0 → P 1 1 → (u v : ℕ) → u < 2 → v < 2 → P u v
 digit-pairs P a b c d zero zero p q = a
 digit-pairs P a b c d zero (suc zero) p q = b
 digit-pairs P a b c d zero (suc (suc v)) p q = absurd (omega arith)

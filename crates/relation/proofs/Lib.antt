@@ -10,5 +10,6 @@ pub mod RingLaws
 pub mod OrderLaws
 pub mod RingMeaning
 pub mod WordLaws
+pub mod JoinLaws
 pub mod Counting
 pub mod ComposeLaws

@@ -200,11 +200,11 @@ unfolding ring.under
 on-under n h = fun-ext (λ j. ap (λ (x : ℕ). on (x - 1) j) (flag-exact n h ∙ omega arith) ∙ on-ones n j)
 
 -- The zeros below the lowest set bit of a number count up to the smallest number in the set of its bits.
-on-half : (w : ℕ) → (λ (j : ℕ). on w (suc j)) ≡ on (w / 2)
+pub on-half : (w : ℕ) → (λ (j : ℕ). on w (suc j)) ≡ on (w / 2)
 unfolding on
 on-half w = fun-ext (λ j. ap (λ (n : ℕ). eqb (n % 2) 1) (ap (λ (n : ℕ). w / 2 ^ n) {x = suc j} {y = 1 + j} (omega arith) ∙ sym (shr-shr w 1 j)))
 
-on-lowest : (w : ℕ) → on w 0 ≡ eqb (w % 2) 1
+pub on-lowest : (w : ℕ) → on w 0 ≡ eqb (w % 2) 1
 unfolding on
 on-lowest w = ap (λ (n : ℕ). eqb (n % 2) 1) (div-one w)
 

@@ -3,7 +3,7 @@
 ghost use mathlib.Core.Path.{_≡_};
 ghost use Prim.Native.Nat.{_<_, _≤_};
 ghost use Rattle.relation.specs.Rel.{empty, single, given, union, intersection, difference, least, count, Next};
-ghost use Rattle.relation.specs.Bits.{on, bit};
+ghost use Rattle.relation.specs.Bits.{on, bit, byteOr};
 ghost use Rattle.relation.specs.Ring.{under};
 
 // A set of events.
@@ -99,17 +99,18 @@ pub fn given(b: bool, row: Row) -> Row
     none()
 }
 
+// Two rows or-ed as one word: the bytes are those of the byte by byte or.
+fn joined(a: Row, b: Row) -> Row
+    ensures { λ r. ⌜ r ≡ byteOr a b ⌝ }
+{
+    bytes(word(a) | word(b))
+}
+
 // Union.
 pub fn or(a: Row, b: Row) -> Row
     ensures { λ r. ⌜ bit r ≡ union (bit a) (bit b) ⌝ }
 {
-    let mut r = a;
-    let mut k: usize = 0;
-    while k < 8 {
-        r[k] = a[k] | b[k];
-        k += 1;
-    }
-    r
+    joined(a, b)
 }
 
 // Intersection.
