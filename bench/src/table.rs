@@ -1,4 +1,4 @@
-//! The table, the list of the files, and the library alone for a profiler.
+//! The table, the list of the files, and one function alone for a profiler.
 
 use crate::calls::{Function, ROOM};
 use crate::inputs::{rows, Row};
@@ -75,6 +75,7 @@ pub fn one(group: &str, call: &str, repeats: &str) -> io::Result<()> {
     repeat_row(&row, row.call.library, repeats)
 }
 
+/// Calls a function so many times on each file of a row.
 pub fn repeat_row(row: &Row, function: Function, repeats: &str) -> io::Result<()> {
     let repeats = repeats.parse().map_err(|_| io::Error::other(format!("not a number: {repeats}")))?;
     let mut out = [0; ROOM];
