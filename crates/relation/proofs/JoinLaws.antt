@@ -15,7 +15,7 @@ use mir.Val.{Fits}
 use Rattle.relation.specs.Rel.{Set, union}
 use Rattle.relation.specs.Bits.{on, bit, byteOr}
 use Rattle.relation.proofs.ByteLaws.{digit-pairs, Bytes, bytes-all, bit-in, on-or}
-use Rattle.relation.proofs.WordLaws.{on-half, on-lowest}
+use Rattle.relation.proofs.WordLaws.{on-union, on-half, on-lowest}
 
 -- A row of eight bytes.
 pub record Row (row : List ℕ) : Type 0 where
@@ -89,9 +89,7 @@ module _ (a b : List ℕ) (ra : Row a) (rb : Row b) where
   unfolding union
   bit-byteOr = fun-ext (bytes-all bitOr _||_ on-or refl a b (byteOr a b) 8 (omega arith) (record { long = byteOr-long; done = λ k h. byteOr-at k }))
 
-  -- A row with the bits of both rows' words or-ed.
+  -- A row with the bits of both rows' words or-ed is the byte by byte or.
   pub joined-bytes : (r : List ℕ) (v w : ℕ) → Row r → bit a ≡ on v → bit b ≡ on w → bit r ≡ on (bitOr v w) → r ≡ byteOr a b
-  unfolding union
   joined-bytes r v w rr first second both =
-      bit-equal r (byteOr a b) rr byteOr-row
-      (both ∙ fun-ext (λ j. on-or v w j ∙ sym (ap₂ (λ (s t : Set). s j || t j) first second)) ∙ sym bit-byteOr)
+      bit-equal r (byteOr a b) rr byteOr-row (both ∙ on-union (bit a) (bit b) v w first second ∙ sym bit-byteOr)

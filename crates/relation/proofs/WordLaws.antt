@@ -167,10 +167,15 @@ on-flag k j h =
           | no d ↦ ne-eqb 0 (j - k) (λ e. d (omega (arith, e, l))) ∙ sym (ne-eqb k j d)
         ]
 
+-- The bits of two numbers or-ed are the union of their sets.
+pub on-union : (s t : Set) (v w : ℕ) → s ≡ on v → t ≡ on w → on (bitOr v w) ≡ union s t
+unfolding union
+on-union s t v w p q = fun-ext (λ i. on-or v w i ∙ sym (ap₂ (λ (f g : Set). f i || g i) p q))
+
 -- A member more, and a member less, by a bit of the row's number.
 pub on-with : (s : Set) (w j : ℕ) → s ≡ on w → j < 64 → on (bitOr w (flag j)) ≡ union s (single j)
-unfolding union single
-on-with s w j e h = fun-ext (λ i. on-or w (flag j) i ∙ ap₂ _||_ (ap (λ (f : Set). f i) (sym e)) (on-flag j i h))
+unfolding single
+on-with s w j e h = on-union s (single j) w (flag j) e (sym (fun-ext (λ i. on-flag j i h)))
 
 pub on-without : (s : Set) (w j : ℕ) → s ≡ on w → j < 64 → on (bitBut w (flag j)) ≡ difference s (single j)
 unfolding difference single
@@ -199,7 +204,7 @@ pub on-under : (n : ℕ) → n < 64 → on (flag n - 1) ≡ ring.under n
 unfolding ring.under
 on-under n h = fun-ext (λ j. ap (λ (x : ℕ). on (x - 1) j) (flag-exact n h ∙ omega arith) ∙ on-ones n j)
 
--- The zeros below the lowest set bit of a number count up to the smallest number in the set of its bits.
+-- From bit 1 on a number has the bits of its half; bit 0 says whether it is odd.
 pub on-half : (w : ℕ) → (λ (j : ℕ). on w (suc j)) ≡ on (w / 2)
 unfolding on
 on-half w = fun-ext (λ j. ap (λ (n : ℕ). eqb (n % 2) 1) (ap (λ (n : ℕ). w / 2 ^ n) {x = suc j} {y = 1 + j} (omega arith) ∙ sym (shr-shr w 1 j)))
@@ -208,6 +213,7 @@ pub on-lowest : (w : ℕ) → on w 0 ≡ eqb (w % 2) 1
 unfolding on
 on-lowest w = ap (λ (n : ℕ). eqb (n % 2) 1) (div-one w)
 
+-- The zeros below the lowest set bit of a number count up to the smallest number in the set of its bits.
 pub trailing-least : (k w : ℕ) → trailingZeros k w ≡ least k (on w)
 unfolding trailingZeros least
 trailing-least zero w = refl

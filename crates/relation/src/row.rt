@@ -99,7 +99,7 @@ pub fn given(b: bool, row: Row) -> Row
     none()
 }
 
-// Two rows or-ed as one word: the bytes are those of the byte by byte or.
+// Two rows or-ed as one word: "the bytes are those of the byte by byte or" (02, slip 4).
 fn joined(a: Row, b: Row) -> Row
     ensures { λ r. ⌜ r ≡ byteOr a b ⌝ }
 {
