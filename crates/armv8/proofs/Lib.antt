@@ -1,2 +1,3 @@
--- The theorem of `armv8`.
+-- The theorems of `armv8`.
 pub mod Armv8ShowsAll
+pub mod Armv8ShowsFewest

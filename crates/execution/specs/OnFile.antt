@@ -1,11 +1,14 @@
 -- What a verdict over a file's bytes answers, for a model whose files are of side s (01, "Causes of refusal").
 use mathlib.Core.Path.{_≡_}
 use mathlib.Core.List.{List}
-use Prim.Native.Nat.{ℕ, suc}
+use Prim.Native.Nat.{ℕ, suc, _≤_}
+use lib.ListN.{length}
 use Rattle.relation.specs.Rel.{nodes}
 use Rattle.relation.specs.Order.{EachOnce}
 use Rattle.models.specs.Recording.{Recording, event}
+use Rattle.models.specs.Steps.{count}
 use Rattle.models.specs.Graph.{Base, base, graph}
+use Rattle.models.specs.Term.{_⁺, ⟦_⟧}
 use Rattle.models.specs.Rules as models
 use Rattle.layout.specs.Layout.{Side}
 use Rattle.layout.specs.Decode.{decode}
@@ -31,3 +34,11 @@ pub record OnFile (s : Side) (M : models.Model) (Judged : Base → Verdict → T
 -- `imm-shows-all` and `armv8-shows-all` prove it of every verdict that is `OnFile`.
 abbrev pub ShowsAll : List ℕ → Verdict → Type 0
 ShowsAll f v = v .answer ≡ answers 0 → EachOnce (event (decode f)) (events v)
+
+-- "Every other ring that may be shown has at least as many" (02, slip 5), in the words of the rules: of all ways in which the execution graph of
+-- the file f breaks the rule that is named, none has fewer steps than the verdict v shows events. Rule 5 is broken by steps of ar or ob from
+-- an event back to itself, as many as `count` says; `steps3` says how many steps a way has that breaks rule 3.
+-- `imm-shows-fewest` and `armv8-shows-fewest` prove it of every verdict that is `OnFile`.
+pub record ShowsFewest (M : models.Model) (f : List ℕ) (steps3 : (a : ℕ) → ⟦ M .coherent ⟧ (graph (decode f)) a a → ℕ) (v : Verdict) : Type 0 where
+  pub rule3 : v .answer ≡ answers 3 → (a : ℕ) (way : ⟦ M .coherent ⟧ (graph (decode f)) a a) → length (events v) ≤ steps3 a way
+  pub rule5 : v .answer ≡ answers 5 → (a : ℕ) (way : ⟦ M .order ⁺ ⟧ (graph (decode f)) a a) → length (events v) ≤ count way

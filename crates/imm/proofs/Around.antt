@@ -32,6 +32,19 @@ apart-is r d id all inside a e f =
     same x y true h = rw (lt-ltb x 64 (inside .source x y h))
     same x y false h = rw h
 
+-- A closing step is one of po or sw, or of eco; each of po or sw is one, and each of eco between two events.
+pub closing-cases : (B : Base) (x y : ℕ) → closing B x y ≡ true → (steps B x y ≡ true) ⊎ (eval nodes eco B x y ≡ true)
+unfolding closing apart either union
+closing-cases B x y h = elim (or-either (steps B x y) _ h) [ inl p ↦ inl p | inr p ↦ inr (and-left (eval nodes eco B x y) _ p) ]
+
+pub step-closes : (B : Base) (x y : ℕ) → steps B x y ≡ true → closing B x y ≡ true
+unfolding closing either union
+step-closes B x y h = or-left (steps B x y) _ h
+
+pub eco-closes : (B : Base) (x y : ℕ) → (x ≡ y → ⊥) → eval nodes eco B x y ≡ true → closing B x y ≡ true
+unfolding closing apart either union
+eco-closes B x y d h = or-right (steps B x y) _ (rw (ne-eqb x y d) (and-both (eval nodes eco B x y) true h refl))
+
 -- A closing step of e is one of f.
 closed-within : (r e f : Rel) → ((x y : ℕ) → e x y ≡ true → f x y ≡ true) → (x : ℕ) → closed r e x x ≡ true → closed r f x x ≡ true
 unfolding closed either union
@@ -44,24 +57,24 @@ closed-within r e f sub x p =
 
 -- hb ; eco? comes back to x: by steps alone, or by steps and an eco step from another event.
 pub around : (B : Base) → Inside (steps B) → (x : ℕ) → eval nodes (IMM .coherent) B x x ≡ true → (y : ℕ) × (closed (steps B) (closing B) y y ≡ true)
-unfolding steps closing apart closed eval optional either union identity
+unfolding steps closed eval optional either union identity
 around B inside x p =
     let (y, m, a, b) = compose-sound nodes (plus nodes (steps B)) (optional (B .E) (eval nodes eco B)) x x p in (
       x,
       elim (ℕ-discrete y x) [
         | yes e ↦ by-steps (subst (λ (z : ℕ). plus nodes (steps B) x z ≡ true) e a)
         | no d ↦ elim (or-either (eval nodes eco B y x) _ b) [
-          | inl h ↦ by-eco y m a (rw (ne-eqb y x d) (and-both (eval nodes eco B y x) true h refl))
+          | inl h ↦ by-eco y m a (eco-closes B y x d h)
           | inr h ↦ absurd (d (eqb-true y x (and-right (B .E y) _ h)))
         ]
       ],
     )
   where
     by-steps : plus nodes (steps B) x x ≡ true → closed (steps B) (closing B) x x ≡ true
-    by-steps q = closed-within (steps B) (steps B) (closing B) (λ u v h. or-left (steps B u v) _ h) x (plus-closed (steps B) inside x q)
+    by-steps q = closed-within (steps B) (steps B) (closing B) (step-closes B) x (plus-closed (steps B) inside x q)
 
-    by-eco : (y : ℕ) → Mem y nodes → plus nodes (steps B) x y ≡ true → apart (eval nodes eco B) y x ≡ true → closed (steps B) (closing B) x x ≡ true
-    by-eco y m a h = or-right (closing B x x) _ (compose-complete nodes (plus nodes (steps B)) (closing B) x y x m a (or-right (steps B y x) _ h))
+    by-eco : (y : ℕ) → Mem y nodes → plus nodes (steps B) x y ≡ true → closing B y x ≡ true → closed (steps B) (closing B) x x ≡ true
+    by-eco y m a h = or-right (closing B x x) _ (compose-complete nodes (plus nodes (steps B)) (closing B) x y x m a h)
 
 -- The closing step of a ring is po or sw, or it is eco and the ring has two or more events.
 not-apart : (r : Rel) (x y : ℕ) → x ≡ y → apart r x y ≡ false

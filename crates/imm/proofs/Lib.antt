@@ -1,3 +1,4 @@
--- Laws that the proofs of `imm` cite, and its theorem.
+-- Laws that the proofs of `imm` cite, and its theorems.
 pub mod Around
 pub mod ImmShowsAll
+pub mod ImmShowsFewest

@@ -17,7 +17,7 @@ use Rattle.recording.proofs.CauseLaws.{loaded-side, load-number}
 use Rattle.recording.proofs.Longest.{read-of}
 use Rattle.verdict.specs.declared.Verdict.{Verdict}
 use Rattle.verdict.specs.Answer.{refuses, answers}
-use Rattle.verdict.proofs.ShownMeaning.{answers-zero}
+use Rattle.verdict.proofs.ShownMeaning.{answers-injective}
 use Rattle.translation.specs.Translation.{translation}
 use Rattle.lines.specs.Lines.{chip, lineOf}
 use Rattle.soundness.specs.Soundness.{immVerdict, armv8Verdict}
@@ -28,7 +28,7 @@ use Rattle.judgement.specs.Judgement.{OnSource, OnChip, lineFor, TextOf}
 pub both-sound : (f : List ℕ) (v w : Verdict) → LoadsAs layout.source f → OnSource f v → OnChip (translation f) w → w .answer ≡ answers 0 → v .answer ≡ answers 0
 unfolding immVerdict armv8Verdict
 both-sound f v w l on chip-on h =
-    let allowed = answers-zero _ (sym (chip-on .shown .answer) ∙ h) in
+    let allowed = answers-injective _ 0 (sym (chip-on .shown .answer) ∙ h) in
     on .shown .answer ∙ ap answers (soundness f l .allowed-back allowed)
 
 -- What is printed, by what loading answered.

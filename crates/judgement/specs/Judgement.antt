@@ -52,7 +52,7 @@ pub record ChipLine (f text : List ℕ) : Type 0 where
   pub judged-chip : OnChip f on-chip
   pub prints : text ≡ lineFor chip on-chip
 
--- The text is what the judge prints of the file f. Which ring is shown is free; all else is fixed.
+-- The text is what the judge prints of the file f. Which of several shortest rings is shown is free; all else is fixed.
 abbrev pub Prints : List ℕ → List ℕ → Type 0
 Prints = TextOf SourceLines ChipLine
 
@@ -71,7 +71,7 @@ pub record OwnPage (On : List ℕ → Verdict → Type 0) (f text : List ℕ) : 
   pub judged : On f verdict
   pub prints : text ≡ page f (ringOf verdict)
 
--- The text is what the program page prints of the file f: "A program prints it, or the judge's line for a refusal". Which ring a verdict
--- shows is free; all else is fixed.
+-- The text is what the program page prints of the file f: "A program prints it, or the judge's line for a refusal". Which of several
+-- shortest rings a verdict shows is free; all else is fixed.
 abbrev pub PrintsPage : List ℕ → List ℕ → Type 0
 PrintsPage = TextOf (OwnPage OnSource) (OwnPage OnChip)

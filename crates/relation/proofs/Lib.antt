@@ -6,9 +6,11 @@ pub mod GridLaws
 pub mod Meaning
 pub mod Pigeonhole
 pub mod Walks
+pub mod RingWalks
 pub mod RingLaws
 pub mod OrderLaws
 pub mod RingMeaning
+pub mod ClosedWalks
 pub mod WordLaws
 pub mod JoinLaws
 pub mod Counting

@@ -1,6 +1,6 @@
 -- Laws of the ring routine: its parts together find a ring exactly where there is one.
 use mathlib.Core.Path.{_≡_, refl, sym, ap, ap₂, subst, _∙_, fun-ext}
-use mathlib.Core.List.{List, [], _∷_}
+use mathlib.Core.List.{List}
 use mathlib.Core.Bool.{Bool, true, false, _&&_, _||_, false≢true}
 use mathlib.Core.Logic.{_⊎_, inl, inr}
 use Prim.Native.Nat.{ℕ, zero, suc, _+_, _-_, _<_, _≤_}
@@ -20,6 +20,7 @@ use Rattle.relation.proofs.SetLaws.{least-is, least-lt}
 use Rattle.relation.proofs.GridLaws.{inverse-back, Rows, rows-set}
 use Rattle.relation.proofs.Meaning.{and-left, and-right, and-both, or-either, mem-below, below-mem, image-sound, compose-sound, compose-complete, plus-sound}
 use Rattle.relation.proofs.Walks.{Inside, Walk, stay, go, walk-join, steps-walk, power-sound, power-complete, shorten, walk-zero}
+use Rattle.relation.proofs.RingWalks.{getD-any, ClosedWalk, ring-walk}
 
 -- The row of one event is where every walk from it starts.
 pub power-zero : (r : Rel) (s : ℕ) (t u : Set) → s < 64 → t ≡ empty → u ≡ union t (single s) → u ≡ power zero r s
@@ -140,6 +141,22 @@ way-of-steps r e h b s n x at hn w p c t =
 closes : (r e : Rel) → Inside r → (n s x : ℕ) → s < 64 → x < 64 → Walk r s n x → e x s ≡ true → compose nodes (power n r) e s s ≡ true
 closes r e i n s x hs hx w c = compose-complete nodes (power n r) e s x s (mem-below 64 x hx) (power-complete r i n s x hs w) c
 
+-- No closed walk has fewer steps than the shortest, and no ring has fewer events than that has: one more than steps.
+pub no-shorter : (r e : Rel) → Inside r → Inside e → (n s m : ℕ) → Shortest r e n s → ClosedWalk r e m → n ≤ m
+no-shorter r e ir ie n s m w c =
+    elim (decLt m n) [
+      | no h ↦ omega (arith, h)
+      | yes h ↦ absurd
+          (false≢true
+          (sym (w .fewest m h (c .start))
+          ∙ closes r e ir m (c .start) (c .end) (ie .target (c .end) (c .start) (c .close)) (ie .source (c .end) (c .start) (c .close)) (c .walk) (c .close)))
+    ]
+
+no-shorter-ring : (r e : Rel) → Inside r → Inside e → (n s : ℕ) → Shortest r e n s → (l : List ℕ) → Ring r e l → n + 1 ≤ length l
+no-shorter-ring r e ir ie n s w l ring =
+    let round = no-shorter r e ir ie n s (length l - 1) w (ring-walk r e l ring (length l - 1) (omega (arith, ring .inside))) in
+    omega (arith, ring .inside)
+
 -- Where 64 steps are not enough to come back, no number is.
 pub none-back : (r e : Rel) → Inside r → Inside e → (n s : ℕ) → 64 ≤ n → Shortest r e n s → (i : ℕ) → closed r e i i ≡ false
 unfolding closed either union
@@ -194,11 +211,6 @@ turned-low k m n h = rw (lt-ltb (k + m) n h, turnedTo)
 pub turned-high : (k m n : ℕ) → n ≤ k + m → turnedTo k m n ≡ k + m - n
 unfolding turnedTo
 turned-high k m n h = rw (le-ltb (k + m) n h, turnedTo)
-
-pub getD-any : (l : List ℕ) (i d f : ℕ) → i < length l → getD l i d ≡ getD l i f
-getD-any [] i d f h = absurd (omega arith)
-getD-any (x ∷ l) zero d f h = refl
-getD-any (x ∷ l) (suc i) d f h = getD-any l i d f (omega arith)
 
 -- Where a place comes from: by the two cases of `turnedTo`.
 record Place (k m n j : ℕ) : Type 0 where
@@ -361,9 +373,13 @@ ring-none r e ir ie n s h w l p = record { none = λ q. none-back r e ir ie n s 
 pub ring-some : (r e : Rel) → Inside r → Inside e → (n s : ℕ) (at : List ℕ) → n < 64 → Shortest r e n s → Way r e s n at
     → (len : ℕ) (out : List ℕ) → Turned at (n + 1) len out → RingOrNone r e (take len out)
 ring-some r e ir ie n s at h w y len out t =
+    let long : length (take len out) ≡ n + 1 = length-take-le len out (omega (arith, t .same, t .long)) ∙ t .same in
     record {
-      none = λ q. absurd (omega (arith, q, length-take-le len out (omega (arith, t .same, t .long)), t .same));
-      ring = λ q. ring-of-way r e ir ie s n at w h y len out t;
+      none = λ q. absurd (omega (arith, q, long));
+      ring = λ q. record {
+        ring = ring-of-way r e ir ie s n at w h y len out t;
+        fewest = λ k ring. rw long (no-shorter-ring r e ir ie n s w k ring);
+      };
     }
 
 -- The rounds of `shortest`.

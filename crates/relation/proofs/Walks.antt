@@ -72,6 +72,17 @@ node {z = z} stay k = z
 node {z = z} (go w h) zero = z
 node (go w h) (suc k) = node w k
 
+pub node-last : {r : Rel} {x z n : ℕ} (w : Walk r x n z) → node w zero ≡ z
+unfolding node
+node-last stay = refl
+node-last (go w h) = refl
+
+pub node-step : {r : Rel} {x z n : ℕ} (w : Walk r x n z) (k : ℕ) → k < n → r (node w (suc k)) (node w k) ≡ true
+unfolding node
+node-step stay k h = absurd (omega arith)
+node-step {r} (go {z = z} w h) zero q = subst (λ (y : ℕ). r y z ≡ true) (sym (node-last w)) h
+node-step (go w h) (suc k) q = node-step w k (omega arith)
+
 pub upto-node : {r : Rel} {x z n : ℕ} (w : Walk r x n z) (k : ℕ) → k ≤ n → Walk r x (n - k) (node w k)
 unfolding node
 upto-node stay k p = counted (omega arith) stay

@@ -1,4 +1,4 @@
--- Rings: what a ring of a relation is, and what the ring routine answers (01, "What is shown").
+-- Rings: what a ring of a relation is, which are the shortest, and what the ring routine answers (01, "What is shown"; 02, slip 5).
 -- A ring's closing step may be of another relation than its other steps.
 use mathlib.Core.Path.{_≡_}
 use mathlib.Core.List.{List}
@@ -22,14 +22,19 @@ pub record Ring (r e : Rel) (l : List ℕ) : Type 0 where
   pub steps : (k : ℕ) → k < length l → (k ≡ closing → ⊥) → r (getD l k zero) (after l k) ≡ true
   pub closes : e (getD l closing zero) (after l closing) ≡ true
 
+-- "A ring such that every other ring of the same relation has at least as many events" (02, slip 5). A ring has as many steps as events.
+pub record ShortestRing (r e : Rel) (l : List ℕ) : Type 0 where
+  pub ring : Ring r e l
+  pub fewest : (k : List ℕ) → Ring r e k → length l ≤ length k
+
 -- r* ; e: any number of steps of r, then one of e.
 unfoldable pub closed : Rel → Rel → Rel
 closed r e = either e (compose nodes (plus nodes r) e)
 
--- What the ring routine answers: no event and the certificate that none comes back to itself, or a ring.
+-- What the ring routine answers: no event and the certificate that none comes back to itself, or a shortest ring.
 pub record RingOrNone (r e : Rel) (l : List ℕ) : Type 0 where
   pub none : length l ≡ zero → (i : ℕ) → closed r e i i ≡ false
-  pub ring : zero < length l → Ring r e l
+  pub ring : zero < length l → ShortestRing r e l
 
 -- The numbers below n.
 unfoldable pub under : ℕ → Set

@@ -3,3 +3,4 @@ pub mod TermLaws
 pub mod PairLaws
 pub mod ShownLaws
 pub mod ShownMeaning
+pub mod FewestSteps

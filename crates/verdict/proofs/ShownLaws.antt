@@ -7,7 +7,7 @@ use native.Mathlib.Omega.{arith}
 use native.Mathlib.Decide.{decLt}
 use lib.ListN.{length, take}
 use Rattle.relation.specs.Rel.{Set, Rel, some, least, diagonal, plus, nodes}
-use Rattle.relation.specs.Ring.{Ring, RingOrNone, closed}
+use Rattle.relation.specs.Ring.{ShortestRing, RingOrNone, closed}
 use Rattle.relation.specs.Order.{order}
 use Rattle.relation.proofs.SetLaws.{least-is}
 use Rattle.relation.proofs.Meaning.{some-sound}
@@ -53,8 +53,8 @@ ring-same r e s c l p q w = subst (λ (t : Rel). RingOrNone t c l) p (subst (λ 
 pub pair-same : (r s : Rel) (a b : ℕ) → r ≡ s → FirstPair r a b → FirstPair s a b
 pair-same r s a b p w = subst (λ (t : Rel). FirstPair t a b) p w
 
--- Where an event comes back to itself, the ring routine answers a ring.
-ring-there : (r e : Rel) (l : List ℕ) → RingOrNone r e l → (y : ℕ) × (closed r e y y ≡ true) → Ring r e l
+-- Where an event comes back to itself, the ring routine answers a shortest ring.
+ring-there : (r e : Rel) (l : List ℕ) → RingOrNone r e l → (y : ℕ) × (closed r e y y ≡ true) → ShortestRing r e l
 ring-there r e l w (y, p) =
     elim (decLt zero (length l)) [
       | yes h ↦ w .ring h
@@ -99,9 +99,9 @@ module _ (M : Model) (B : Base) (steps closing : Rel) (v : Verdict) where
     allowed : events v ≡ order 64 (eval nodes (M .order) B) (B .E) → Case 0
     broken1 : events v ≡ least 64 (unread nodes B) ∷ [] → Case 1
     broken2 : events v ≡ firstOf (unordered nodes B) ∷ secondOf (unordered nodes B) ∷ [] → Case 2
-    broken3 : Ring steps closing (events v) → Case 3
+    broken3 : ShortestRing steps closing (events v) → Case 3
     broken4 : events v ≡ firstOf (eval nodes broken-pair B) ∷ secondOf (eval nodes broken-pair B) ∷ [] → Case 4
-    broken5 : Ring (eval nodes (M .order) B) (eval nodes (M .order) B) (events v) → Case 5
+    broken5 : ShortestRing (eval nodes (M .order) B) (eval nodes (M .order) B) (events v) → Case 5
 
   case0 : Case 0 → events v ≡ order 64 (eval nodes (M .order) B) (B .E)
   case0 (allowed h) = h
@@ -112,13 +112,13 @@ module _ (M : Model) (B : Base) (steps closing : Rel) (v : Verdict) where
   case2 : Case 2 → events v ≡ firstOf (unordered nodes B) ∷ secondOf (unordered nodes B) ∷ []
   case2 (broken2 h) = h
 
-  case3 : Case 3 → Ring steps closing (events v)
+  case3 : Case 3 → ShortestRing steps closing (events v)
   case3 (broken3 h) = h
 
   case4 : Case 4 → events v ≡ firstOf (eval nodes broken-pair B) ∷ secondOf (eval nodes broken-pair B) ∷ []
   case4 (broken4 h) = h
 
-  case5 : Case 5 → Ring (eval nodes (M .order) B) (eval nodes (M .order) B) (events v)
+  case5 : Case 5 → ShortestRing (eval nodes (M .order) B) (eval nodes (M .order) B) (events v)
   case5 (broken5 h) = h
 
   shown : (n : ℕ) → verdict nodes B M ≡ n → v .answer ≡ answers n → v .len ≤ 64 → Case n → Shown steps closing M B v
@@ -164,7 +164,7 @@ module _ (M : Model) (B : Base) (steps closing : Rel) (v : Verdict) where
   tried-3 hold p around a b w =
       let (x, h) = diagonal-there _ p in
       let ring = ring-there steps closing (events v) w (around x h) in
-      found 3 (omega (arith, ring .inside)) (shown 3 (broken-rule M B 2 hold p) a b (broken3 ring))
+      found 3 (omega (arith, ring .ring .inside)) (shown 3 (broken-rule M B 2 hold p) a b (broken3 ring))
 
   pub tried-4 : Hold 3 M B → (a b : ℕ) → FirstPair (eval nodes broken-pair B) a b → a < 64 → Says v (answers 4) (a ∷ b ∷ []) → Tried 4 steps closing M B v
   unfolding failures at

@@ -77,7 +77,7 @@ module _ (r : Recording ℕ) (within : Within nodes r) where
   event-below : (e : ℕ) → T (event r e) → e < 64
   event-below e h = listed-below 64 e (within .listed e h)
 
-  term-inside : (t : Term) → Inside (eval nodes t (base nodes r))
+  pub term-inside : (t : Term) → Inside (eval nodes t (base nodes r))
   unfolding base
   term-inside t =
       let tested = tests nodes (base nodes r) (graph r) (agrees nodes r within) t in
@@ -89,10 +89,12 @@ module _ (r : Recording ℕ) (within : Within nodes r) where
   no-event-above : (j : ℕ) → 64 ≤ j → event r j ≡ false
   no-event-above j h = is-false (event r j) (λ e. let low = event-below j (holds _ e) in omega arith)
 
--- The answer of number 0 is that of no other number.
-pub answers-zero : (n : ℕ) → answers n ≡ answers 0 → n ≡ 0
-answers-zero zero e = refl
-answers-zero (suc n) e = cc
+-- The answer of a number is that of no other number.
+pub answers-injective : (n m : ℕ) → answers n ≡ answers m → n ≡ m
+answers-injective zero zero e = refl
+answers-injective zero (suc m) e = cc
+answers-injective (suc n) zero e = cc
+answers-injective (suc n) (suc m) e = cc
 
 -- Over the base of a recording the answer is the model's verdict of its execution graph: allowed exactly where no rule fails.
 module _ (steps closing : Rel) (M : Model) (v : Verdict) (r : Recording ℕ) (within : Within nodes r) (w : Shown steps closing M (base nodes r) v) where
@@ -102,7 +104,7 @@ module _ (steps closing : Rel) (M : Model) (v : Verdict) (r : Recording ℕ) (wi
   pub allowed-means : (v .answer ≡ answers 0) ↔ models.Allowed M (graph r)
   allowed-means =
       let (f, g) = recording-allowed nodes r within M in
-      (λ e. f (answers-zero (verdict nodes (base nodes r) M) (sym (w .answer) ∙ e)), λ a. w .answer ∙ ap answers (g a))
+      (λ e. f (answers-injective (verdict nodes (base nodes r) M) 0 (sym (w .answer) ∙ e)), λ a. w .answer ∙ ap answers (g a))
 
   pub allowed-shows : v .answer ≡ answers 0 → EachOnce (event r) (events v)
   unfolding base

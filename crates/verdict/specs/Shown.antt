@@ -5,7 +5,7 @@ use mathlib.Core.List.{List, [], _∷_}
 use Prim.Native.Nat.{ℕ, _<_, _≤_}
 use lib.ListN.{take}
 use Rattle.relation.specs.Rel.{Rel, some, least, nodes}
-use Rattle.relation.specs.Ring.{Ring, closed}
+use Rattle.relation.specs.Ring.{ShortestRing, closed}
 use Rattle.relation.specs.Order.{order}
 use Rattle.models.specs.Graph.{Base}
 use Rattle.models.specs.Term.{eval}
@@ -39,9 +39,10 @@ pub record Shown (steps closing : Rel) (M : Model) (B : Base) (v : Verdict) : Ty
   pub broken2 : verdict nodes B M ≡ 2 → events v ≡ firstOf (unordered nodes B) ∷ secondOf (unordered nodes B) ∷ []
   -- "4: the pair with smallest read, read then write."
   pub broken4 : verdict nodes B M ≡ 4 → events v ≡ firstOf (eval nodes broken-pair B) ∷ secondOf (eval nodes broken-pair B) ∷ []
-  -- "3 and 5: a ring of distinct events, smallest first; which ring is free. Each step, last to first included, is of the rule's relation".
-  pub broken3 : verdict nodes B M ≡ 3 → Ring steps closing (events v)
-  pub broken5 : verdict nodes B M ≡ 5 → Ring (eval nodes (M .order) B) (eval nodes (M .order) B) (events v)
+  -- "3 and 5: a ring of distinct events, smallest first [..]. Each step, last to first included, is of the rule's relation";
+  -- "every other ring that may be shown has at least as many [..]. Which of several shortest rings is shown stays free" (02, slip 5).
+  pub broken3 : verdict nodes B M ≡ 3 → ShortestRing steps closing (events v)
+  pub broken5 : verdict nodes B M ≡ 5 → ShortestRing (eval nodes (M .order) B) (eval nodes (M .order) B) (events v)
 
 -- The rest says what the parts of a verdict do.
 
