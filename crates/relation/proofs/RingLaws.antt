@@ -148,7 +148,7 @@ no-shorter r e ir ie n s m w c =
       | no h ↦ omega (arith, h)
       | yes h ↦ absurd
           (false≢true
-          (sym (w .fewest m h (c .start))
+          (sym (w .fewest m (omega arith) (c .start))
           ∙ closes r e ir m (c .start) (c .end) (ie .target (c .end) (c .start) (c .close)) (ie .source (c .end) (c .start) (c .close)) (c .walk) (c .close)))
     ]
 
@@ -378,7 +378,7 @@ ring-some r e ir ie n s at h w y len out t =
       none = λ q. absurd (omega (arith, q, long));
       ring = λ q. record {
         ring = ring-of-way r e ir ie s n at w h y len out t;
-        fewest = λ k ring. rw long (no-shorter-ring r e ir ie n s w k ring);
+        fewest = λ k ring. omega (arith, long, no-shorter-ring r e ir ie n s w k ring);
       };
     }
 

@@ -26,7 +26,7 @@ returns c =
     let turn = c .before .before .before in
     let inv = turn .before .loop .inv in
     shortest-by _ _ _ _ _ (turn .before .before .before .before .inverse .ensures)
-    (round-found _ _ _ _ _ _ (inv .1) (c .before .before .returning .ensures) (c .before .first .ensures) (turn .loop-test .taken) (c .if1 .taken) (inv .2))
+    (round-found _ _ _ _ _ _ (inv .1) (c .before .before .returning .ensures) (c .before .first .ensures) (turn .loop-test .taken) (omega (arith, c .if1 .taken)) (inv .2))
 
 loop-again : tie.Need-loop-again Inv-loop μ-loop
 loop-again c =
@@ -35,7 +35,7 @@ loop-again c =
       search needs,
       power-then _ _ _ _ (inv .1) (c .then .ensures),
       below-more _ _ (inv .2)
-          (round-none _ _ _ _ _ _ (inv .1) (c .before .before .before .returning .ensures) (c .before .before .first .ensures) (c .before .if1 .left)),
+          (round-none _ _ _ _ _ _ (inv .1) (c .before .before .before .returning .ensures) (c .before .before .first .ensures) (omega (arith, c .before .if1 .left))),
     )
 
 returns-2 : tie.Need-returns-2 Inv-loop μ-loop
