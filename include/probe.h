@@ -66,7 +66,7 @@ probe_answer probe_load(const uint8_t *file, size_t length);
  *   broken 2         two writes of one location that co does not order: the pair with the smallest first, then the smallest second
  *   broken 4         the read and the write of a pair that another write comes between: the pair with the smallest read
  *   broken 3 and 5   a ring of distinct events, the smallest first, each ordered before the next and the last before the first;
- *                    it is one of several, and which one is shown is free
+ *                    no ring that may be shown has fewer events, and which of several that have as few is shown is free
  * docs/FORMAT.md has the rules and the relations, docs/READING.md how to read what is shown. */
 probe_answer probe_imm(const uint8_t *file, size_t length, uint8_t *out, size_t room);
 probe_answer probe_armv8(const uint8_t *file, size_t length, uint8_t *out, size_t room);

@@ -1,4 +1,4 @@
-// Rings, found by the number of their steps, the fewest first.
+// Shortest rings: the number of steps is tried from the fewest up.
 // A ring's steps are edges of g; its closing step, from the last event back to the first, is an edge of e.
 
 use crate::Sequence;
@@ -129,7 +129,7 @@ pub fn turned(at: [u8; 64], len: usize) -> Sequence
     Sequence { at: out, len }
 }
 
-// A ring, or no event where there is none.
+// A shortest ring, or no event where there is none.
 pub fn ring(g: Grid, e: Grid) -> Sequence
     ensures bounded { λ r. ⌜ r .len ≤ 64 ⌝ }
     ensures ring { λ r. ⌜ RingOrNone (edge g) (edge e) (take (r .len) (r .at)) ⌝ }

@@ -60,7 +60,7 @@ fn broken_pair(rule: u8, p: Pair) -> Verdict
     }
 }
 
-// A ring of a broken rule.
+// A shortest ring of a broken rule.
 fn broken_ring(rule: u8, steps: Grid, closing: Grid) -> Verdict
     ensures answer { λ r. ⌜ r .answer ≡ breaks rule ⌝ }
     ensures bounded { λ r. ⌜ r .len ≤ 64 ⌝ }
