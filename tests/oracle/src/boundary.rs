@@ -3,6 +3,7 @@
 
 use crate::boundary_events;
 use crate::boundary_links;
+use crate::boundary_rings;
 use crate::boundary_several;
 use crate::boundary_threads;
 use crate::handmade::*;
@@ -20,6 +21,7 @@ pub fn cases() -> Vec<Case> {
     boundary_threads::add(&mut cases);
     boundary_links::add(&mut cases);
     boundary_several::add(&mut cases);
+    boundary_rings::add(&mut cases);
     cases.0
 }
 

@@ -7,7 +7,7 @@ pub struct Row {
     pub file: &'static str,
     /// Source and chip verdict as in 01: a is allowed, a digit the broken rule.
     pub verdicts: [&'static str; 2],
-    /// An answer derived by hand; where it shows a ring, one of the legal ones.
+    /// An answer derived by hand; where it shows a ring, a shortest one.
     pub answer: &'static str,
 }
 

@@ -4,6 +4,7 @@
 mod boundary;
 mod boundary_events;
 mod boundary_links;
+mod boundary_rings;
 mod boundary_several;
 mod boundary_threads;
 mod damage;
@@ -30,12 +31,14 @@ mod recording;
 mod relation;
 mod rules;
 mod selftest;
+mod selftest_rings;
 mod shaped;
 mod shown;
 mod translation;
 mod worked;
 mod worked_isb;
 mod worked_pages;
+mod worked_rings;
 
 use handmade::{bytes, outcome};
 use hex::{from_hex, to_hex, with_ring};

@@ -3,6 +3,7 @@
 use crate::execution::Execution;
 use crate::models::{armv8, imm, split_pairs};
 use crate::relation::{shortest_path, union, Relation};
+use std::cmp::Ordering;
 
 /// A verdict with what a shown ring may be made of.
 pub struct Verdict {
@@ -10,7 +11,7 @@ pub struct Verdict {
     pub model: &'static str,
     /// The first broken rule; none if allowed.
     pub rule: Option<u8>,
-    /// The events shown. Under rules 3 and 5 they are one legal ring of several.
+    /// The events shown. Under rules 3 and 5 they are a ring; every other that may be shown has at least as many events.
     pub events: Vec<u8>,
     /// Rules 3 and 5: every step of a ring is of this relation,
     pub steps: Relation,
@@ -64,7 +65,7 @@ fn judge(
     }
     // 3: coherence. Shown is a ring.
     if !coherent {
-        let events = smallest_first(ring(x, &steps, &closing));
+        let events = ring(&x.numbers, &steps, &closing).expect("a broken rule 3 has a ring");
         return Verdict { model, rule: Some(3), events, steps, closing };
     }
     // 4: no rmw pair is also fre then coe. Shown is the pair with smallest read, read then write.
@@ -78,26 +79,27 @@ fn judge(
     }
     // 5: the order has no ring. Shown is a ring.
     if !ordered {
-        let events = smallest_first(ring(x, &order, &none()));
+        let events = ring(&x.numbers, &order, &none()).expect("a broken rule 5 has a ring");
         return Verdict { model, rule: Some(5), events, steps: order, closing: none() };
     }
     fixed(None, smallest_available(x, &order).expect("an order without a ring has a first event"))
 }
 
-/// A ring of `steps`, or else a path of `steps` whose ends `closing` joins. The caller knows that there is one.
-fn ring(x: &Execution, steps: &Relation, closing: &Relation) -> Vec<u8> {
+/// A shortest ring among `numbers` (02, slip 5): of all rings of `steps`, and all paths of one or more `steps` whose ends `closing`
+/// joins, one with the fewest events, the smallest first; none where there is none.
+pub fn ring(numbers: &[u8], steps: &Relation, closing: &Relation) -> Option<Vec<u8>> {
     let mut best: Option<Vec<u8>> = None;
     let mut offer = |found: Vec<u8>| {
         if best.as_ref().is_none_or(|b| found.len() < b.len()) {
             best = Some(found);
         }
     };
-    for &a in &x.numbers {
+    for &a in numbers {
         if let Some(mut path) = shortest_path(steps, a, a) {
             path.pop();
             offer(path);
         }
-        for &b in &x.numbers {
+        for &b in numbers {
             if a != b && closing.has(b, a) {
                 if let Some(path) = shortest_path(steps, a, b) {
                     offer(path);
@@ -105,7 +107,7 @@ fn ring(x: &Execution, steps: &Relation, closing: &Relation) -> Vec<u8> {
             }
         }
     }
-    best.expect("a broken rule 3 or 5 has a ring")
+    best.map(smallest_first)
 }
 
 /// Turns a ring so that it begins with its smallest event.
@@ -129,6 +131,11 @@ pub fn smallest_available(x: &Execution, order: &Relation) -> Option<Vec<u8>> {
 
 /// Why `ring` may not be shown for a verdict under rule 3 or 5, or nothing if it may.
 pub fn ring_fault(verdict: &Verdict, ring: &[u8]) -> Option<String> {
+    list_fault(ring).or_else(|| step_fault(verdict, ring)).or_else(|| length_fault(verdict, ring))
+}
+
+/// A ring is a list of different events, the smallest first.
+fn list_fault(ring: &[u8]) -> Option<String> {
     if ring.is_empty() {
         return Some("the ring is empty".into());
     }
@@ -140,9 +147,11 @@ pub fn ring_fault(verdict: &Verdict, ring: &[u8]) -> Option<String> {
             return Some(format!("event {e} stands twice"));
         }
     }
-    if ring.iter().any(|&e| e < ring[0]) {
-        return Some("the smallest event is not first".into());
-    }
+    ring.iter().any(|&e| e < ring[0]).then(|| "the smallest event is not first".into())
+}
+
+/// Each event leads to the next and the last to the first by one step, which at most once is a closing one.
+fn step_fault(verdict: &Verdict, ring: &[u8]) -> Option<String> {
     let mut closings = 0;
     for (i, &a) in ring.iter().enumerate() {
         let b = ring[(i + 1) % ring.len()];
@@ -155,8 +164,15 @@ pub fn ring_fault(verdict: &Verdict, ring: &[u8]) -> Option<String> {
             return Some(format!("{a} to {b} is no step"));
         }
     }
-    if closings > 1 {
-        return Some(format!("{closings} steps are eco only"));
+    (closings > 1).then(|| format!("{closings} steps are eco only"))
+}
+
+/// A ring has as many events as the verdict's own, which is a shortest one. One with fewer would be an error of the oracle.
+fn length_fault(verdict: &Verdict, ring: &[u8]) -> Option<String> {
+    let (count, least) = (ring.len(), verdict.events.len());
+    match count.cmp(&least) {
+        Ordering::Greater => Some(format!("{count} events, where a ring of {least} may be shown")),
+        Ordering::Less => Some(format!("{count} events, fewer than the oracle's shortest ring of {least}")),
+        Ordering::Equal => None,
     }
-    None
 }

@@ -2,6 +2,7 @@
 //! and what generated files and rings reach.
 
 use crate::boundary;
+use crate::boundary_rings;
 use crate::boundary_threads::{pairs, translated_pairs};
 use crate::damage::any_file;
 use crate::handmade::{bytes, outcome};
@@ -14,19 +15,22 @@ use crate::reach_isb;
 use crate::reach_pages::{of_pages, PageReach, SORTS};
 use crate::recording::{load, CHIP, SOURCE};
 use crate::relation::*;
-use crate::shown::{answer, fault};
+use crate::rules::{ring_fault, Verdict};
+use crate::selftest_rings;
+use crate::shown::{answer, fault, verdicts};
 use crate::translation::translate;
 use crate::worked;
 use crate::worked_isb;
 use crate::worked_pages::PAGES;
+use crate::worked_rings;
 
-struct Tally {
+pub struct Tally {
     passed: usize,
     failed: usize,
 }
 
 impl Tally {
-    fn test(&mut self, name: &str, holds: bool, detail: impl Fn() -> String) {
+    pub fn test(&mut self, name: &str, holds: bool, detail: impl Fn() -> String) {
         if holds {
             self.passed += 1;
         } else {
@@ -55,7 +59,7 @@ pub fn run() -> bool {
     let [(_, file, expected), ..] = worked::ANSWERS;
     let printed = answer(&bytes(file)).replace(';', "\n");
     tally.test("the two lines of 01", printed == expected.replace(';', "\n"), || printed.clone());
-    for (name, text, expected) in worked::ANSWERS.into_iter().chain(worked_isb::ANSWERS) {
+    for (name, text, expected) in worked::ANSWERS.into_iter().chain(worked_isb::ANSWERS).chain(worked_rings::ANSWERS) {
         let file = bytes(text);
         let why = fault(&file, expected);
         tally.test(name, why.is_none(), || format!("{why:?}; ours {}", answer(&file)));
@@ -63,6 +67,10 @@ pub fn run() -> bool {
     }
     for (name, text, wrong) in worked::WRONG.into_iter().chain(worked_isb::WRONG) {
         tally.test(name, fault(&bytes(text), wrong).is_some(), || format!("taken for right: {wrong}"));
+    }
+    for (name, text, wrong, why) in worked_rings::WRONG {
+        let got = fault(&bytes(text), wrong);
+        tally.test(name, got.as_deref() == Some(why), || format!("{got:?}: {wrong}"));
     }
     let got = translate(&bytes(worked::TRANSLATION_FROM));
     tally.test("the worked translation", got == Ok(bytes(worked::TRANSLATION_TO)), || format!("{got:?}"));
@@ -72,14 +80,32 @@ pub fn run() -> bool {
     }
     let chip = translate(&bytes(worked::TRANSLATION_TO));
     tally.test("a chip file is not translated", chip == Err(11), || format!("{chip:?}"));
+    known_rings(&mut tally);
     pages(&mut tally);
     operators(&mut tally);
+    selftest_rings::run(&mut tally);
     own_answers(&mut tally);
     generated_files(&mut tally);
     generated_pages(&mut tally);
     generated_barriers(&mut tally);
     println!("{} passed, {} failed", tally.passed, tally.failed);
     tally.failed == 0
+}
+
+/// The rules and the lengths of shortest rings against those known by hand.
+fn known_rings(tally: &mut Tally) {
+    for case in boundary_rings::ringed() {
+        let shown = |verdict: &Verdict| (verdict.rule.unwrap_or(0), verdict.events.len());
+        let got = verdicts(&case.file).map(|list| list.iter().map(shown).collect::<Vec<_>>());
+        tally.test(&case.name, got.as_ref() == Ok(&case.rings), || format!("{got:?}, not {:?}", case.rings));
+        let ours = answer(&case.file);
+        tally.test(&case.name, fault(&case.file, &ours).is_none(), || ours.clone());
+        if !case.longer.is_empty() {
+            let why = verdicts(&case.file).ok().and_then(|list| ring_fault(&list[0], &case.longer));
+            let wanted = format!("{} events, where a ring of {} may be shown", case.longer.len(), case.rings[0].1);
+            tally.test(&case.name, why.as_ref() == Some(&wanted), || format!("{why:?}, not {wanted}"));
+        }
+    }
 }
 
 /// Pages against those written by hand; and a file that does not load has the refusal of loading, with any ring.

@@ -1,7 +1,7 @@
 //! Worked examples derived by hand: exact answers, a translation, and answers that must be rejected.
 
-/// Files with their answers; where a ring is shown, it is one of the legal ones.
-pub const ANSWERS: [(&str, &str, &str); 12] = [
+/// Files with their answers; where a ring is shown, it is a shortest one.
+pub const ANSWERS: [(&str, &str, &str); 11] = [
     (
         "the example of 01",
         "01 02 01 01 01 00 00 00 | 02 02 00 00 00 01 00 00 | 00 01 00 00 00 01 00 01 | 00 01 01 00",
@@ -35,15 +35,8 @@ pub const ANSWERS: [(&str, &str, &str); 12] = [
     (
         // 1 R x 1; 2 F both; 3 W x 1; rf 3 to 1 is external, and 2 synchronizes with itself.
         "a ring of one event",
-        "01 03 01 01 01 00 00 00 | 02 01 00 00 00 01 00 01 | 03 03 03 00 00 00 00 00
-         | 00 02 00 00 00 01 00 00 | 00 01 03 00",
+        ONE_EVENT,
         "source broken 3 2;chip broken 3 1 3;",
-    ),
-    (
-        "the same shown by a longer ring that eco closes",
-        "01 03 01 01 01 00 00 00 | 02 01 00 00 00 01 00 01 | 03 03 03 00 00 00 00 00
-         | 00 02 00 00 00 01 00 00 | 00 01 03 00",
-        "source broken 3 1 2 3;chip broken 3 1 3;",
     ),
     (
         // 1 W x 1; 2 dmb ld; 3 R y 0 || 4 W y 1; 5 dmb ld; 6 R x 0
@@ -78,6 +71,8 @@ pub const TRANSLATION_TO: &str = "02 07 02 08 03 05 00 00
     | 07 02 02 00 00 01 00 04 | 06 03 06 00 00 00 00 00 | 00 01 00 01 01 00 00 07 | 02 03 05 00 00 00 00 08
     | 00 01 38 00 | 00 06 03 00 | 00 01 39 00 | 05 03 01 00 | 06 04 01 00 | 00 06 03 00 | 00 01 39 00 | 00 06 01 00";
 
+pub const ONE_EVENT: &str = "01 03 01 01 01 00 00 00 | 02 01 00 00 00 01 00 01 | 03 03 03 00 00 00 00 00
+    | 00 02 00 00 00 01 00 00 | 00 01 03 00";
 pub const STALE: &str = "01 04 02 02 01 03 00 00 | 02 02 00 00 00 01 00 00 | 00 02 02 00 01 01 00 00
     | 04 01 01 00 01 01 00 01 | 00 01 00 00 00 00 00 02 | 00 01 02 00 | 00 01 38 00";
 const NEWER_FIRST: &str = "01 04 01 03 01 03 00 00 | 02 02 00 00 00 01 00 00 | 00 02 00 00 00 02 00 01

@@ -11,7 +11,7 @@ const ISB_FIRST: &str = "02 07 03 04 01 04 00 00 | 02 02 00 00 00 01 00 00 | 03 
 const ISB_FENCE: &str = "02 03 01 02 03 00 00 00 | 00 03 05 00 00 00 00 00 | 01 03 07 00 00 00 00 01 | 02 01 00 00 00 00 00 02
     | 00 06 03 00 | 00 01 38 00";
 
-/// Files with their answers; where a ring is shown, it is one of the legal ones.
+/// Files with their answers; where a ring is shown, it is a shortest one.
 /// In a comment `..` is 1 W x 1; 2 dmb sy; 3 W y 1, and a thread is written in program order.
 pub const ANSWERS: [(&str, &str, &str); 29] = [
     (
