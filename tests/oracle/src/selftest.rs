@@ -13,6 +13,7 @@ use crate::random::Random;
 use crate::reach::{self, Reach};
 use crate::reach_isb;
 use crate::reach_pages::{of_pages, PageReach, SORTS};
+use crate::reach_rings;
 use crate::recording::{load, CHIP, SOURCE};
 use crate::relation::*;
 use crate::rules::{ring_fault, Verdict};
@@ -88,6 +89,7 @@ pub fn run() -> bool {
     generated_files(&mut tally);
     generated_pages(&mut tally);
     generated_barriers(&mut tally);
+    generated_rings(&mut tally);
     println!("{} passed, {} failed", tally.passed, tally.failed);
     tally.failed == 0
 }
@@ -218,5 +220,20 @@ fn generated_barriers(tally: &mut Tally) {
     tally.test("an isb serves its clause alone", otherwise == 0, || format!("{otherwise} recordings are answered otherwise"));
     for (name, least, _) in reach_isb::SORTS {
         tally.test("drawn isb", found[name] >= least, || format!("{name}: {} recordings, not {least}", found[name]));
+    }
+}
+
+/// Shortest rings of drawn recordings have many lengths, and many of the recordings tell each routine that shows longer ones.
+fn generated_rings(tally: &mut Tally) {
+    let told = reach_rings::of_recordings(&mut Random::new(7), 20_000);
+    for (model, rule, wanted) in reach_rings::LENGTHS {
+        let reached: Vec<usize> = told.lengths[&(model, rule)].keys().copied().collect();
+        let others = reached.iter().any(|length| !wanted.contains(length));
+        let holds = wanted.iter().all(|length| reached.contains(length)) && !(rule == 3 && others);
+        tally.test("lengths of drawn rings", holds, || format!("{model}, rule {rule}: {reached:?}"));
+    }
+    for (model, rule, name, least, _) in reach_rings::ROUTINES {
+        let longer = told.longer[&(model, rule, name)];
+        tally.test("drawn rings", longer >= least, || format!("{model}, rule {rule}, {name}: {longer} recordings, not {least}"));
     }
 }
