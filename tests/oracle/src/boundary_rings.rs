@@ -193,8 +193,9 @@ fn passed_on(sketch: &mut Sketch, threads: usize) {
 /// Of the rounds, k / 4, the thread has first 2, then 3, 1, 0. Rounds 0 and 1 of a thread write one location, and so do 2 and 3.
 /// So co goes with po, the reads of one location that share a thread have the order of what they read, and rules 1 to 4 hold. No co is
 /// external, and there is no detour: ar is rfe and data, and the only ring has all events.
-/// On the chip data then coi leads from read 2k + 1 of round 1 to the write of round 0 in its thread: a ring of eight, by the pairs between.
-/// A ring of ob goes round the four threads, with two events in each, so that none is shorter.
+/// On the chip data then coi leads from a read of round 1 to the write of round 0 in its thread: a ring of eight, by the pairs between.
+/// None is shorter: a step of ob from a write leads to the next thread, one from a read to its own or to the one before, and to go round
+/// takes four writes. With fifteen pairs the step from the last to the first passes a thread by; a ring with it has all of rounds 0 and 1.
 fn circle(sketch: &mut Sketch, pairs: u8) {
     let (first, base) = (sketch.locations, sketch.events.len() as u8);
     let location = |k: u8| first + k % 4 + 4 * (k / 8);

@@ -1,4 +1,4 @@
-//! The oracle's own tests: boundary files, litmus rows, worked examples, pages, operators, its own answers,
+//! The oracle's own tests: boundary files, litmus rows, worked examples, rings, pages, operators, its own answers,
 //! and what generated files and rings reach.
 
 use crate::boundary;
@@ -57,22 +57,7 @@ pub fn run() -> bool {
         tally.test(row.name, fault(&file, row.answer).is_none(), || format!("{:?}", fault(&file, row.answer)));
         tally.test(row.name, fault(&file, &got).is_none(), || format!("{:?}", fault(&file, &got)));
     }
-    let [(_, file, expected), ..] = worked::ANSWERS;
-    let printed = answer(&bytes(file)).replace(';', "\n");
-    tally.test("the two lines of 01", printed == expected.replace(';', "\n"), || printed.clone());
-    for (name, text, expected) in worked::ANSWERS.into_iter().chain(worked_isb::ANSWERS).chain(worked_rings::ANSWERS) {
-        let file = bytes(text);
-        let why = fault(&file, expected);
-        tally.test(name, why.is_none(), || format!("{why:?}; ours {}", answer(&file)));
-        tally.test(name, fault(&file, &answer(&file)).is_none(), || answer(&file));
-    }
-    for (name, text, wrong) in worked::WRONG.into_iter().chain(worked_isb::WRONG) {
-        tally.test(name, fault(&bytes(text), wrong).is_some(), || format!("taken for right: {wrong}"));
-    }
-    for (name, text, wrong, why) in worked_rings::WRONG {
-        let got = fault(&bytes(text), wrong);
-        tally.test(name, got.as_deref() == Some(why), || format!("{got:?}: {wrong}"));
-    }
+    worked_answers(&mut tally);
     let got = translate(&bytes(worked::TRANSLATION_FROM));
     tally.test("the worked translation", got == Ok(bytes(worked::TRANSLATION_TO)), || format!("{got:?}"));
     for each in [[6, 0, 0, 0], [6, 6, 4, 0]] {
@@ -92,6 +77,26 @@ pub fn run() -> bool {
     generated_rings(&mut tally);
     println!("{} passed, {} failed", tally.passed, tally.failed);
     tally.failed == 0
+}
+
+/// Answers derived by hand, right and wrong ones.
+fn worked_answers(tally: &mut Tally) {
+    let [(_, file, expected), ..] = worked::ANSWERS;
+    let printed = answer(&bytes(file)).replace(';', "\n");
+    tally.test("the two lines of 01", printed == expected.replace(';', "\n"), || printed.clone());
+    for (name, text, expected) in worked::ANSWERS.into_iter().chain(worked_isb::ANSWERS).chain(worked_rings::ANSWERS) {
+        let file = bytes(text);
+        let why = fault(&file, expected);
+        tally.test(name, why.is_none(), || format!("{why:?}; ours {}", answer(&file)));
+        tally.test(name, fault(&file, &answer(&file)).is_none(), || answer(&file));
+    }
+    for (name, text, wrong) in worked::WRONG.into_iter().chain(worked_isb::WRONG) {
+        tally.test(name, fault(&bytes(text), wrong).is_some(), || format!("taken for right: {wrong}"));
+    }
+    for (name, text, wrong, why) in worked_rings::WRONG {
+        let got = fault(&bytes(text), wrong);
+        tally.test(name, got.as_deref() == Some(why), || format!("{got:?}: {wrong}"));
+    }
 }
 
 /// The rules and the lengths of shortest rings against those known by hand.
