@@ -145,14 +145,15 @@ fn operators(tally: &mut Tally) {
             }
             drawn
         });
-        // Numbers reached by exactly 1, 2, .. steps of r; six numbers need no more than six steps.
-        let reached = |a: u8, b: u8| {
+        // The fewest steps of r, one or more, by the numbers reached by exactly 1, 2, .. of them; six numbers need no more than six.
+        let fewest = |a: u8, b: u8| {
             let mut at = vec![a];
-            (0..6).any(|_| {
+            (1..=6).find(|_| {
                 at = few.iter().copied().filter(|&y| at.iter().any(|&x| r.has(x, y))).collect();
                 at.contains(&b)
             })
         };
+        let reached = |a: u8, b: u8| fewest(a, b).is_some();
         let (joined, closed, both, either) = (compose(&r, &s), plus(&r), intersection(&r, &s), union(&[&r, &s]));
         let (turned, less, maybe, any) = (inverse(&r), difference(&r, &s), opt(&r), star(&r));
         let mut holds = acyclic(&r) == few.iter().all(|&a| !reached(a, a));
@@ -167,7 +168,7 @@ fn operators(tally: &mut Tally) {
                 holds &= maybe.has(a, b) == (a == b || r.has(a, b));
                 holds &= any.has(a, b) == (a == b || reached(a, b));
                 let path = shortest_path(&r, a, b);
-                holds &= path.is_some() == reached(a, b);
+                holds &= path.as_ref().map(|p| p.len() - 1) == fewest(a, b);
                 let steps = |p: Vec<u8>| p[0] == a && p[p.len() - 1] == b && p.windows(2).all(|w| r.has(w[0], w[1]));
                 holds &= path.is_none_or(steps);
             }

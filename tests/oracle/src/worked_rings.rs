@@ -1,7 +1,7 @@
-//! Worked examples of shortest rings (02, slip 5), derived by hand: shortest rings, of which any may be shown, and rings that may not be,
-//! most of them for their length alone.
+//! Worked examples of rings (01, "What is shown"; 02, slip 5), derived by hand: shortest rings, of which any may be shown, and answers with
+//! a ring that may not be, often for its length alone.
 
-use crate::worked::{ONE_EVENT, STALE};
+use crate::worked::{NEWER_FIRST, ONE_EVENT, STALE};
 
 /// 1 W x 1 || 2 R x 1; 3 R x 1; 4 R x 0. fr leads from 4 to 1, eco from 4 to 2 and 3 too.
 const OLDER_LAST: &str = "01 04 01 03 01 02 00 00 | 00 02 00 00 00 01 00 00 | 03 01 00 00 00 01 00 01
@@ -18,21 +18,55 @@ const DATA_AND_FENCE: &str = "01 05 02 04 01 04 00 00 | 02 01 00 00 00 01 00 01 
 /// 1 R x 1; 2 F acquire; 3 F acquire; 4 W y 1 || 5 R y 1; 6 W x 1, data from 5. ar leads from 1 to 4 by either fence.
 const TWO_FENCES: &str = "01 06 02 03 01 05 00 00 | 02 01 00 00 00 01 00 01 | 03 03 01 00 00 00 00 00 | 04 03 01 00 00 00 00 00
     | 00 02 00 00 01 01 00 00 | 06 01 00 00 01 01 00 02 | 00 02 00 00 00 01 00 03 | 00 01 06 00 | 00 01 04 00 | 00 04 05 00";
+/// Message passing by release and acquire, and by relaxed accesses: 1 W x 1; 2 W release y 1 || 3 R acquire y 1; 4 R x 0
+/// || 5 W z 1; 6 W u 1 || 7 R u 1; 8 R z 0.
+const PASSED_TWICE: &str = "01 08 04 04 01 03 05 07 | 02 02 00 00 00 01 00 00 | 00 02 02 00 01 01 00 00 | 04 01 01 00 01 01 00 01
+    | 00 01 00 00 00 00 00 02 | 06 02 00 00 02 01 00 00 | 00 02 00 00 03 01 00 00 | 08 01 00 00 03 01 00 03 | 00 01 00 00 02 00 00 04
+    | 00 01 02 00 | 00 01 38 00 | 00 01 06 00 | 00 01 3a 00";
 
 /// Files with their answers; of several shortest rings each is right.
-pub const ANSWERS: [(&str, &str, &str); 8] = [
+pub const ANSWERS: [(&str, &str, &str); 9] = [
     ("the first of two newer reads", OLDER_LAST, "source broken 3 2 4;chip broken 3 1 2 4;"),
     ("the second of two newer reads", OLDER_LAST, "source broken 3 3 4;chip broken 3 1 3 4;"),
     ("another in each line", OLDER_LAST, "source broken 3 2 4;chip broken 3 1 3 4;"),
     ("po past a write", LOADS, "source broken 3 1 3 4 5;chip broken 5 1 3 4 5;"),
     ("eco closes a shorter ring than sw", LOADS_STALE, "source broken 3 4 5;chip broken 3 4 5;"),
     ("data past a fence", DATA_AND_FENCE, "source broken 5 1 3 4 5;chip broken 5 1 3 4 5;"),
+    ("one step of eco", PASSED_TWICE, "source broken 3 1 2 3 4;chip broken 5 1 2 3 4;"),
     ("the first of two fences", TWO_FENCES, "source broken 5 1 2 4 5 6;chip broken 5 1 4 5 6;"),
     ("the second of two fences", TWO_FENCES, "source broken 5 1 3 4 5 6;chip broken 5 1 4 5 6;"),
 ];
 
 /// Wrong answers, each with the reason for which it is rejected.
-pub const WRONG: [(&str, &str, &str, &str); 14] = [
+pub const WRONG: [(&str, &str, &str, &str); 22] = [
+    (
+        "the smallest event is not first",
+        STALE,
+        "source broken 3 2 3 4 1;chip broken 5 1 2 3 4;",
+        "the source ring: the smallest event is not first",
+    ),
+    (
+        "an event twice",
+        STALE,
+        "source broken 3 1 2 3 4 1 2 3 4;chip broken 5 1 2 3 4;",
+        "the source ring: event 1 stands twice",
+    ),
+    ("a step that is none", STALE, "source broken 3 1 2 3;chip broken 5 1 2 3 4;", "the source ring: 3 to 1 is no step"),
+    ("the chip ring turned round", STALE, "source broken 3 1 2 3 4;chip broken 5 1 4 3 2;", "the chip ring: 1 to 4 is no step"),
+    ("a number no event has", STALE, "source broken 3 1 2 3 4;chip broken 5 1 2 3 64;", "the chip ring: 64 is no event"),
+    (
+        "two steps that are eco only",
+        NEWER_FIRST,
+        "source broken 3 2 3 4;chip broken 3 2 3 4;",
+        "the source ring: 2 steps are eco only",
+    ),
+    (
+        "two steps that are eco only, and no more events than a shortest ring",
+        PASSED_TWICE,
+        "source broken 3 5 6 7 8;chip broken 5 1 2 3 4;",
+        "the source ring: 2 steps are eco only",
+    ),
+    ("a ring of one event that is none", NEWER_FIRST, "source broken 3 3;chip broken 3 2 3 4;", "the source ring: 3 to 3 is no step"),
     (
         "eco closes a longer ring than one event",
         ONE_EVENT,
