@@ -96,22 +96,22 @@ impl Case {
 }
 
 /// A routine that shows a ring, but not always a shortest: the model, the rule, its name, of so many verdicts on 20,000 recordings of each
-/// kind at the least it shows a longer ring, and the number of events that it shows.
-pub type Routine = (&'static str, u8, &'static str, usize, fn(&Case) -> Option<usize>);
+/// kind at the least it shows a longer ring, of so many one that is longer by six events, and the number of events that it shows.
+pub type Routine = (&'static str, u8, &'static str, [usize; 2], fn(&Case) -> Option<usize>);
 
 pub const ROUTINES: [Routine; 12] = [
-    ("source", 3, "depth first", 1300, Case::depth_first),
-    ("source", 3, "through the smallest event", 600, Case::through_smallest),
-    ("source", 3, "by hb from the smallest event", 350, Case::by_hb),
-    ("source", 3, "without eco where there is one", 60, Case::unclosed),
-    ("source", 3, "with eco where there is one", 180, Case::closed),
-    ("source", 3, "of two or more events", 50, Case::of_several),
-    ("source", 5, "depth first", 500, Case::depth_first),
-    ("source", 5, "through the smallest event", 180, Case::through_smallest),
-    ("chip", 3, "depth first", 500, Case::depth_first),
-    ("chip", 3, "through the smallest event", 250, Case::through_smallest),
-    ("chip", 5, "depth first", 3500, Case::depth_first),
-    ("chip", 5, "through the smallest event", 900, Case::through_smallest),
+    ("source", 3, "depth first", [1300, 60], Case::depth_first),
+    ("source", 3, "through the smallest event", [600, 5], Case::through_smallest),
+    ("source", 3, "by hb from the smallest event", [350, 8], Case::by_hb),
+    ("source", 3, "without eco where there is one", [60, 1], Case::unclosed),
+    ("source", 3, "with eco where there is one", [180, 0], Case::closed),
+    ("source", 3, "of two or more events", [50, 0], Case::of_several),
+    ("source", 5, "depth first", [500, 15], Case::depth_first),
+    ("source", 5, "through the smallest event", [180, 10], Case::through_smallest),
+    ("chip", 3, "depth first", [500, 0], Case::depth_first),
+    ("chip", 3, "through the smallest event", [250, 0], Case::through_smallest),
+    ("chip", 5, "depth first", [3500, 100], Case::depth_first),
+    ("chip", 5, "through the smallest event", [900, 35], Case::through_smallest),
 ];
 
 /// By model and rule the lengths of shortest rings that are to arise. Under rule 3 there are no others (`boundary_rings`, `longest`).
@@ -127,8 +127,8 @@ pub const LENGTHS: [(&str, u8, &[usize]); 4] = [
 pub struct Told {
     /// By model and rule how many have a shortest ring of each length.
     pub lengths: BTreeMap<(&'static str, u8), BTreeMap<usize, usize>>,
-    /// By model, rule and name of a routine how many it shows a longer ring of.
-    pub longer: BTreeMap<(&'static str, u8, &'static str), usize>,
+    /// By model, rule and name of a routine how many it shows a longer ring of, and one that is longer by six events.
+    pub longer: BTreeMap<(&'static str, u8, &'static str), [usize; 2]>,
 }
 
 /// Of `count` drawn recordings of each kind.
@@ -153,8 +153,10 @@ impl Told {
         let (model, case) = (verdict.model, Case::of(verdict));
         *self.lengths.entry((model, rule)).or_default().entry(case.shortest).or_default() += 1;
         for (_, _, name, _, shows) in ROUTINES.into_iter().filter(|routine| (routine.0, routine.1) == (model, rule)) {
-            let longer = shows(&case).is_some_and(|length| length > case.shortest);
-            *self.longer.entry((model, rule, name)).or_default() += longer as usize;
+            let longer = self.longer.entry((model, rule, name)).or_default();
+            for (count, by) in longer.iter_mut().zip([1, 6]) {
+                *count += shows(&case).is_some_and(|length| length >= case.shortest + by) as usize;
+            }
         }
     }
 }
