@@ -7,7 +7,6 @@ use native.Mathlib.Omega.{arith}
 use Rattle.relation.specs.Rel.{Rel, nodes}
 use Rattle.relation.proofs.Walks.{Inside}
 use Rattle.relation.proofs.RingWalks.{ClosedWalk}
-use Rattle.relation.proofs.ClosedWalks.{at-most-steps}
 use Rattle.models.specs.Graph.{Base, graph, base, Within}
 use Rattle.models.specs.Term.{⟦_⟧}
 use Rattle.models.specs.Rules.{Model}
@@ -17,10 +16,10 @@ use Rattle.recording.specs.Load.{LoadsAs, causeFor}
 use Rattle.recording.proofs.CauseLaws.{cause-goes-on}
 use Rattle.recording.proofs.Loaded.{loaded-within}
 use Rattle.verdict.specs.Answer.{refuses, answers}
-use Rattle.verdict.specs.Shown.{events, Shown}
+use Rattle.verdict.specs.Shown.{Shown}
 use Rattle.verdict.specs.declared.Verdict.{Verdict}
 use Rattle.verdict.proofs.ShownMeaning.{allowed-shows}
-use Rattle.verdict.proofs.FewestSteps.{named, fewest-5}
+use Rattle.verdict.proofs.FewestSteps.{fewest-3, fewest-5}
 use Rattle.execution.specs.OnFile.{OnFile, ShowsAll, ShowsFewest}
 
 -- A refusal is not the answer of a recording.
@@ -56,7 +55,7 @@ module _ (s : Side) (M : Model) (Judged : Base → Verdict → Type 0) (f : List
               let w = shown (on .judged l .shown) in
               let (n, most, walk) = round (within l) a p in
               let (i, j) = inside (within l) in
-              omega (arith, most, at-most-steps steps closing i j (events v) (w .broken3 (named (decode f) (within l) steps closing M v w 3 e)) n walk);
+              omega (arith, most, fewest-3 (decode f) (within l) steps closing M v w i j e n walk);
           rule5 = λ e a p.
               let l = loads 5 e in
               fewest-5 (decode f) (within l) steps closing M v (shown (on .judged l .shown)) e a p;

@@ -2,7 +2,7 @@
 -- So a shortest ring has no more events than any closed walk has steps, its closing step counted.
 use mathlib.Core.Path.{_≡_, refl, sym, subst, _∙_}
 use mathlib.Core.List.{List, [], _∷_}
-use mathlib.Core.Bool.{Bool, true, false, false≢true}
+use mathlib.Core.Bool.{true, false, false≢true}
 use mathlib.Core.Logic.{_⊎_, inl, inr}
 use Prim.Native.Nat.{ℕ, zero, suc, _+_, _-_, _<_, _≤_}
 use native.Mathlib.Omega.{arith}
@@ -10,13 +10,13 @@ use native.Mathlib.Decide.{decLt}
 use borrow.Author.Count.{below-none, below-more}
 use lib.ListN.{length, getD, take}
 use lib.Seq.{length-take-le}
-use Rattle.relation.specs.Rel.{Set, Rel, compose, diagonal, some, nodes}
+use Rattle.relation.specs.Rel.{Set, Rel, compose, diagonal, least, nodes}
 use Rattle.relation.specs.Ring.{power, Ring, ShortestRing, Shortest, Way, SmallestAt, Turned, turnedTo}
 use Rattle.relation.proofs.Truth.{is-false}
-use Rattle.relation.proofs.Meaning.{mem-below, below-mem, some-sound, some-complete, compose-sound}
+use Rattle.relation.proofs.Meaning.{compose-sound}
 use Rattle.relation.proofs.Walks.{Inside, Walk, counted, node, node-last, node-step, upto-node, power-sound, power-complete}
 use Rattle.relation.proofs.RingWalks.{ClosedWalk}
-use Rattle.relation.proofs.RingLaws.{no-shorter, none-back, ring-of-way, smallest-one, smallest-new, smallest-old, smallest-done}
+use Rattle.relation.proofs.RingLaws.{no-shorter, none-back, ring-of-way, round-found, round-none, smallest-one, smallest-new, smallest-old, smallest-done}
 use Rattle.relation.proofs.RingMeaning.{closed-of-walk}
 
 -- f at 0, 1, .. up to n numbers.
@@ -44,27 +44,29 @@ module _ (r e : Rel) where
   Found = (n s : ℕ) × (n < 64) × Shortest r e n s
 
 module _ (r e : Rel) (ie : Inside e) where
-  abbrev returning : ℕ → Set
-  returning n = diagonal (compose nodes (power n r) e)
-
-  closed-by : (n : ℕ) → n < 64 → ((m : ℕ) → m < n → NoneOf r e m) → (b : Bool) → some nodes (returning n) ≡ b → Found r e ⊎ NoneOf r e n
+  closed-by : (n : ℕ) → n < 64 → ((m : ℕ) → m < n → NoneOf r e m) → Found r e ⊎ NoneOf r e n
   unfolding diagonal
-  closed-by n h fewer true p =
-      let (s, m, c) = some-sound nodes (returning n) p in
-      inl (n, s, h, record { bound = omega arith; inside = λ q. below-mem 64 s m; closes = λ q. c; fewest = fewer })
-  closed-by n h fewer false p = inr (λ t. is-false (compose nodes (power n r) e t t) (λ c. false≢true (sym p ∙ there t c)))
+  closed-by n h fewer =
+      elim (decLt s 64) [
+        | yes q ↦ inl (n, s, h, round-found r e (power n r) returning n s refl refl refl h q fewer)
+        | no q ↦ inr (round-none r e (power n r) returning n s refl refl refl out (omega (arith, q)))
+      ]
     where
-      there : (t : ℕ) → compose nodes (power n r) e t t ≡ true → some nodes (returning n) ≡ true
-      there t c =
-          let (x, m, a, b) = compose-sound nodes (power n r) e t t c in
-          some-complete nodes (returning n) t (mem-below 64 t (ie .target x t b)) c
+      returning : Set
+      returning = diagonal (compose nodes (power n r) e)
+
+      s : ℕ
+      s = least 64 returning
+
+      out : (t : ℕ) → 64 ≤ t → returning t ≡ false
+      out t far = is-false (returning t) (λ c. let (x, m, a, b) = compose-sound nodes (power n r) e t t c in let near = ie .target x t b in omega arith)
 
   fewest-steps : (n : ℕ) → n ≤ 64 → Found r e ⊎ ((m : ℕ) → m < n → NoneOf r e m)
   fewest-steps zero h = inr (below-none _)
   fewest-steps (suc n) h =
       elim (fewest-steps n (omega arith)) [
         | inl found ↦ inl found
-        | inr fewer ↦ elim (closed-by n (omega arith) fewer (some nodes (returning n)) refl) [
+        | inr fewer ↦ elim (closed-by n (omega arith) fewer) [
           | inl found ↦ inl found
           | inr none ↦ inr (λ m q. below-more (NoneOf r e) n fewer none m (omega arith))
         ]

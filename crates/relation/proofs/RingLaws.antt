@@ -15,7 +15,6 @@ use lib.Seq.{getD-set-same, getD-set-other, getD-take, length-take-le}
 use Rattle.relation.specs.Rel.{Set, Rel, empty, single, union, intersection, inverse, identity, image, compose, plus, either, diagonal, least, nodes}
 use Rattle.relation.specs.Bits.{bit, edge}
 use Rattle.relation.specs.Ring.{under, power, after, closed, Ring, RingOrNone, Shortest, Levels, StepsBack, Way, SmallestAt, Turned, turnedTo}
-use Rattle.relation.proofs.ByteLaws.{bit-out}
 use Rattle.relation.proofs.SetLaws.{least-is, least-lt}
 use Rattle.relation.proofs.GridLaws.{inverse-back, Rows, rows-set}
 use Rattle.relation.proofs.Meaning.{and-left, and-right, and-both, or-either, mem-below, below-mem, image-sound, compose-sound, compose-complete, plus-sound}
@@ -162,19 +161,18 @@ pub none-back : (r e : Rel) → Inside r → Inside e → (n s : ℕ) → 64 ≤
 unfolding closed either union
 none-back r e ir ie n s h w i = go-by (e i i || compose nodes (plus nodes r) e i i) refl
   where
-    short : (m x : ℕ) → m < 64 → i < 64 → Walk r i m x → e x i ≡ true → ⊥
-    short m x hm hi a c =
-        false≢true (sym (w .fewest m (omega arith) i) ∙ closes r e ir m i x hi (ie .source x i c) a c)
+    short : (m x : ℕ) → m < 64 → Walk r i m x → e x i ≡ true → ⊥
+    short m x hm a c = (let least = no-shorter r e ir ie n s m w (record { start = i; end = x; walk = a; close = c }) in omega arith)
 
     direct : e i i ≡ true → ⊥
-    direct c = short zero i (omega arith) (ie .target i i c) stay c
+    direct c = short zero i (omega arith) stay c
 
     around : compose nodes (plus nodes r) e i i ≡ true → ⊥
     around p =
         let (x, m, a, c) = compose-sound nodes (plus nodes r) e i i p in
         let (k, u) = steps-walk (plus-sound nodes r i x a) in
         let (l, hl, v) = shorten r ir (suc k) (suc k) i x (omega arith) (ie .target x i c) u in
-        short l x hl (ie .target x i c) v c
+        short l x hl v c
 
     go-by : (b : Bool) → e i i || compose nodes (plus nodes r) e i i ≡ b → e i i || compose nodes (plus nodes r) e i i ≡ false
     go-by false p = p
@@ -196,9 +194,8 @@ module _ (r e : Rel) (ir : Inside r) (ie : Inside e) (s n : ℕ) (at : List ℕ)
       = subst (λ (k : ℕ). Walk r (getD at j zero) (n - j) (getD at k zero)) (omega arith) (part j (n - j) (omega arith)) in
       let whole : Walk r s (n - j + i) (getD at n zero)
       = walk-join first (subst (λ (y : ℕ). Walk r y (n - j) (getD at n zero)) (sym p) rest) in
-      false≢true
-      (sym (shortest .fewest (n - j + i) (omega arith) s)
-      ∙ closes r e ir (n - j + i) s (getD at n zero) (shortest .inside lt) (ie .source (getD at n zero) s (way .close)) whole (way .close))
+      let least = no-shorter r e ir ie n s (n - j + i) shortest (record { start = s; end = getD at n zero; walk = whole; close = way .close }) in
+      omega arith
 
   way-start : s ≡ getD at zero zero
   way-start = walk-zero (power-sound r zero s (getD at zero zero) (way .level zero (omega arith)))
@@ -371,8 +368,9 @@ pub ring-none : (r e : Rel) → Inside r → Inside e → (n s : ℕ) → 64 ≤
 ring-none r e ir ie n s h w l p = record { none = λ q. none-back r e ir ie n s h w; ring = λ q. absurd (omega arith) }
 
 pub ring-some : (r e : Rel) → Inside r → Inside e → (n s : ℕ) (at : List ℕ) → n < 64 → Shortest r e n s → Way r e s n at
-    → (len : ℕ) (out : List ℕ) → Turned at (n + 1) len out → RingOrNone r e (take len out)
-ring-some r e ir ie n s at h w y len out t =
+    → (len : ℕ) (out : List ℕ) (k : ℕ) → Turned at k len out → k ≡ n + 1 → RingOrNone r e (take len out)
+ring-some r e ir ie n s at h w y len out k turned all =
+    let t : Turned at (n + 1) len out = subst (λ (m : ℕ). Turned at m len out) all turned in
     let long : length (take len out) ≡ n + 1 = length-take-le len out (omega (arith, t .same, t .long)) ∙ t .same in
     record {
       none = λ q. absurd (omega (arith, q, long));
@@ -410,9 +408,9 @@ pub shortest-by : (r b e : Rel) (n s : ℕ) → b ≡ inverse e → Shortest r (
 shortest-by r b e n s p w = subst (λ (c : Rel). Shortest r c n s) (inverse-back b e p) w
 
 -- One round of `shortest`: an event that n steps and e bring back to itself, or none.
-module _ (r e p : Rel) (x : List ℕ) (n s : ℕ) (at-n : p ≡ power n r) (returning : bit x ≡ diagonal (compose nodes p e))
-    (first : s ≡ least 64 (bit x)) where
-  on : bit x ≡ diagonal (compose nodes (power n r) e)
+module _ (r e p : Rel) (x : Set) (n s : ℕ) (at-n : p ≡ power n r) (returning : x ≡ diagonal (compose nodes p e))
+    (first : s ≡ least 64 x) where
+  on : x ≡ diagonal (compose nodes (power n r) e)
   on = returning ∙ ap (λ (f : Rel). diagonal (compose nodes f e)) at-n
 
   pub round-found : n < 64 → s < 64 → ((m : ℕ) → m < n → (t : ℕ) → compose nodes (power m r) e t t ≡ false) → Shortest r e n s
@@ -421,15 +419,15 @@ module _ (r e p : Rel) (x : List ℕ) (n s : ℕ) (at-n : p ≡ power n r) (retu
       record {
         bound = omega arith;
         inside = λ q. g;
-        closes = λ q. ap (λ (f : Set). f s) (sym on) ∙ rw first (least-is 64 (bit x) .member (omega arith));
+        closes = λ q. ap (λ (f : Set). f s) (sym on) ∙ rw first (least-is 64 x .member (omega arith));
         fewest = fewer;
       }
 
-  pub round-none : 64 ≤ s → (t : ℕ) → compose nodes (power n r) e t t ≡ false
+  pub round-none : ((t : ℕ) → 64 ≤ t → x t ≡ false) → 64 ≤ s → (t : ℕ) → compose nodes (power n r) e t t ≡ false
   unfolding diagonal
-  round-none g t =
+  round-none out g t =
       ap (λ (f : Set). f t) (sym on)
-      ∙ elim (decLt t 64) [ yes h ↦ least-is 64 (bit x) .smaller t (omega (arith, first, g, h)) | no h ↦ bit-out x t (omega (arith, h)) ]
+      ∙ elim (decLt t 64) [ yes h ↦ least-is 64 x .smaller t (omega (arith, first, g, h)) | no h ↦ out t (omega (arith, h)) ]
 
 -- The place of a smallest, one event more at a time.
 pub smallest-one : (at : List ℕ) → SmallestAt at 1 0

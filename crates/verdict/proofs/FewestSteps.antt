@@ -6,7 +6,7 @@ use native.Mathlib.Omega.{arith}
 use lib.ListN.{length}
 use Rattle.relation.specs.Rel.{Rel, nodes}
 use Rattle.relation.proofs.Truth.{is-true}
-use Rattle.relation.proofs.Walks.{Walk, stay, go, counted, walk-join}
+use Rattle.relation.proofs.Walks.{Inside, Walk, stay, go, counted, walk-join}
 use Rattle.relation.proofs.RingWalks.{ClosedWalk}
 use Rattle.relation.proofs.ClosedWalks.{at-most-steps}
 use Rattle.models.specs.Recording.{Recording}
@@ -39,10 +39,13 @@ module _ (r : Recording ℕ) (within : Within nodes r) where
   plus-round t {a} (one h) = (0, omega arith, record { start = a; end = a; walk = stay; close = tested t a a h })
   plus-round t {a} (cons {b = b} h p) = (count p, omega arith, record { start = b; end = a; walk = plus-walk t p; close = tested t a b h })
 
-  -- Rule 5.
+  -- What is shown under rules 3 and 5.
   module _ (steps closing : Rel) (M : Model) (v : Verdict) (w : Shown steps closing M (base nodes r) v) where
-    pub named : (n : ℕ) → v .answer ≡ answers n → verdict nodes (base nodes r) M ≡ n
+    named : (n : ℕ) → v .answer ≡ answers n → verdict nodes (base nodes r) M ≡ n
     named n e = answers-injective (verdict nodes (base nodes r) M) n (sym (w .answer) ∙ e)
+
+    pub fewest-3 : Inside steps → Inside closing → v .answer ≡ answers 3 → (n : ℕ) → ClosedWalk steps closing n → length (events v) ≤ suc n
+    fewest-3 i j e = at-most-steps steps closing i j (events v) (w .broken3 (named 3 e))
 
     pub fewest-5 : v .answer ≡ answers 5 → (a : ℕ) (p : ⟦ M .order ⁺ ⟧ (graph r) a a) → length (events v) ≤ count p
     fewest-5 e a p =

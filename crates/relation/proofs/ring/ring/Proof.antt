@@ -18,7 +18,7 @@ way-requires c κs =
 returns-2 : tie.Need-returns-2
 returns-2 c =
     let start = c .before .before .before in
-    (omega (arith, c .turned .ensures .same, c .before .before .if1 .left), ring-some _ _ (edge-inside _ (search needs)) (edge-inside _ (search needs)) _ _ _ (c .before .before .if1 .left) (start .shortest .ensures) (c .before .way .ensures) _ _ (c .turned .ensures))
+    (omega (arith, c .turned .ensures .same, c .before .before .if1 .left), ring-some _ _ (edge-inside _ (search needs)) (edge-inside _ (search needs)) _ _ _ (c .before .before .if1 .left) (start .shortest .ensures) (c .before .way .ensures) _ _ _ (c .turned .ensures) (omega arith))
 
 pub ring-spec : {M : Type 1} → statement M
 ring-spec =

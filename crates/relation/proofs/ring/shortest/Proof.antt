@@ -7,6 +7,7 @@ use borrow.Author.Count.{below-none, below-more}
 use Rattle.relation.specs.Rel.{inverse, compose, nodes}
 use Rattle.relation.specs.Bits.{edge}
 use Rattle.relation.specs.Ring.{power}
+use Rattle.relation.proofs.ByteLaws.{bit-out}
 use Rattle.relation.proofs.RingLaws.{power-identity, power-then, shortest-by, round-found, round-none}
 use borrow.Author.Needs.{needs}
 use Rattle.relation.proofs.ring.shortest.Statement.{statement}
@@ -35,7 +36,7 @@ loop-again c =
       search needs,
       power-then _ _ _ _ (inv .1) (c .then .ensures),
       below-more _ _ (inv .2)
-          (round-none _ _ _ _ _ _ (inv .1) (c .before .before .before .returning .ensures) (c .before .before .first .ensures) (omega (arith, c .before .if1 .left))),
+          (round-none _ _ _ _ _ _ (inv .1) (c .before .before .before .returning .ensures) (c .before .before .first .ensures) (bit-out _) (omega (arith, c .before .if1 .left))),
     )
 
 returns-2 : tie.Need-returns-2 Inv-loop μ-loop
