@@ -9,7 +9,7 @@ use lib.Dec.{eqb}
 use lib.ListN.{length}
 use Rattle.relation.specs.Rel.{count, least}
 use Rattle.relation.proofs.Meaning.{and-left, and-right}
-use Rattle.models.specs.Rules.{IMM, ARMv8, first}
+use Rattle.models.specs.Rules.{Model, IMM, ARMv8, TSO, first}
 use Rattle.models.proofs.EvalTable.{tableVerdict}
 use Rattle.layout.specs.Layout.{side}
 use Rattle.recording.specs.Causes.{refusal}
@@ -23,7 +23,7 @@ use Rattle.translation.proofs.EncodedLinks.{encoded-link}
 use Rattle.translation.proofs.SourceFacts.{limits}
 use Rattle.translation.proofs.Bounds.{most-events, links-fit}
 use Rattle.translation.proofs.Says.{Bytes, encode-next}
-use Rattle.soundness.specs.Soundness.{immVerdict, armv8Verdict}
+use Rattle.soundness.specs.Soundness.{immVerdict, armv8Verdict, tsoVerdict}
 use Rattle.soundness.proofs.Proved.{soundness}
 use Rattle.litmus.specs.Table.{Row, Holds, table, Litmus, empty, messagePassing, releaseAcquire, loadBuffering, loadBufferingData, storeBuffering, storeBufferingFences, independentReads, twoPairs, newerBeforeOlder, normalPair, strongPair}
 use Rattle.litmus.proofs.Recorded.{eventList, hasRecord, saidOr, recordingOf, verdict-computed}
@@ -72,38 +72,41 @@ module _ (f : List ℕ) (s : Source f) where
 
 -- The verdicts on what a file's contents and their translation describe. To unfold them is to unfold all that they compute with.
 module _ (f : List ℕ) where
-  unfoldable pub sourceVerdict : ℕ
+  unfoldable pub sourceVerdict : Model → ℕ
   unfolding evaluated tableVerdict eventList hasRecord saidOr recordingOf contents
-  sourceVerdict = tableVerdict (eventList (contents f .events) (contents f .locations)) (recordingOf (contents f)) IMM
+  sourceVerdict M = tableVerdict (eventList (contents f .events) (contents f .locations)) (recordingOf (contents f)) M
 
   unfoldable pub chipVerdict : ℕ
   unfolding evaluated tableVerdict eventList hasRecord saidOr recordingOf contents count least flagged inserted newEvents fenced after follows keptOr newMode newFlag controlled fromExclusive fromCasdep newLink translated
   chipVerdict = tableVerdict (eventList (translated (contents f) .events) (translated (contents f) .locations)) (recordingOf (translated (contents f))) ARMv8
 
--- The test of a row: its file loads, is a source file, and the two verdicts are the row's.
+-- The test of a row: its file loads, is a source file, and the three verdicts are the row's.
 unfoldable pub passes : Row → Bool
 unfolding first evaluated sourceVerdict chipVerdict
 passes row =
     (eqb (first (evaluated (row .bytes))) 0 && side (row .bytes))
-    && (eqb (sourceVerdict (row .bytes)) (row .source) && eqb (chipVerdict (row .bytes)) (row .chip))
+    && (eqb (sourceVerdict (row .bytes) IMM) (row .source) && eqb (chipVerdict (row .bytes)) (row .chip) && eqb (sourceVerdict (row .bytes) TSO) (row .tso))
 
 -- A row that passes holds.
 pub passes-holds : (row : Row) → passes row ≡ true → Holds row
-unfolding passes immVerdict armv8Verdict
+unfolding passes immVerdict armv8Verdict tsoVerdict
 passes-holds row p =
     let f = row .bytes in
     let passed = eqb (first (evaluated f)) 0 in
-    let source = eqb (sourceVerdict f) (row .source) in
+    let source = eqb (sourceVerdict f IMM) (row .source) in
     let chip = eqb (chipVerdict f) (row .chip) in
-    let l = and-left (passed && side f) (source && chip) p in
-    let v = and-right (passed && side f) (source && chip) p in
+    let tso = eqb (sourceVerdict f TSO) (row .tso) in
+    let l = and-left (passed && side f) (source && chip && tso) p in
+    let v = and-right (passed && side f) (source && chip && tso) p in
+    let both = and-left (source && chip) tso v in
     let loads : refusal f ≡ 0 = passes-loads f (eqb-true (first (evaluated f)) 0 (and-left passed (side f) l)) in
     let loaded : Source f = record { loads = loads; side-is = and-right passed (side f) l } in
     record {
       loads = loaded;
-      source = verdict-computed f (contents f) (source-bytes f loaded) loads IMM ∙ eqb-true (sourceVerdict f) (row .source) (and-left source chip v);
+      source = verdict-computed f (contents f) (source-bytes f loaded) loads IMM ∙ eqb-true (sourceVerdict f IMM) (row .source) (and-left source chip both);
       chip = verdict-computed (translation f) (translated (contents f)) (chip-bytes f loaded) (soundness f loaded .translation-loads .loads) ARMv8
-          ∙ eqb-true (chipVerdict f) (row .chip) (and-right source chip v);
+          ∙ eqb-true (chipVerdict f) (row .chip) (and-right source chip both);
+      tso = verdict-computed f (contents f) (source-bytes f loaded) loads TSO ∙ eqb-true (sourceVerdict f TSO) (row .tso) (and-right (source && chip) tso v);
     }
 
 -- Every row passes.

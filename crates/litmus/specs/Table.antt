@@ -1,4 +1,4 @@
--- The litmus table (01, "Litmus table"): twelve source files with the verdict on each and on its translation, and the statement that they hold.
+-- The litmus table (01, "Litmus table"): twelve source files with the verdicts on each and on its translation, and the statement that they hold.
 -- The verdict on the chip side is about the translation as it is defined, computed from the bytes of the source file.
 use mathlib.Core.Path.{_≡_}
 use mathlib.Core.List.{List, [], _∷_, List·Memᴰ}
@@ -6,18 +6,21 @@ use Prim.Native.Nat.{ℕ}
 use Rattle.translation.specs.Translation.{translation}
 use Rattle.layout.specs.Layout.{source}
 use Rattle.recording.specs.Load.{LoadsAs}
-use Rattle.soundness.specs.Soundness.{immVerdict, armv8Verdict}
+use Rattle.soundness.specs.Soundness.{immVerdict, armv8Verdict, tsoVerdict}
 
--- The bytes of a source file; the verdict on it under IMM, and on its translation under ARMv8: 0 allowed, else the number of the broken rule.
+-- The bytes of a source file; the verdict on it under IMM, on its translation under ARMv8, and on it under x86-TSO (02, slip 6): 0 allowed, else the
+-- number of the broken rule.
 pub record Row : Type 0 where
   pub bytes : List ℕ
   pub source : ℕ
   pub chip : ℕ
+  pub tso : ℕ
 
 pub record Holds (row : Row) : Type 0 where
   pub loads : LoadsAs source (row .bytes)
   pub source : immVerdict (row .bytes) ≡ row .source
   pub chip : armv8Verdict (translation (row .bytes)) ≡ row .chip
+  pub tso : tsoVerdict (row .bytes) ≡ row .tso
 
 -- The rows, in 01's order. The bytes stand as in 01, "The recording": the header, a line for each event, a line for each link.
 -- Comments give the events by number, a bar between two threads. Locations 0, 1, 2 are x, y, z with initial writes 56, 57, 58;
@@ -31,6 +34,7 @@ empty = record {
       ∷ [];
   source = 0;
   chip = 0;
+  tso = 0;
 }
 
 -- Message passing relaxed. 1: W x 1; 2: W y 1 | 3: R y 1 (rf 2); 4: R x 0 (rf 56).
@@ -47,6 +51,7 @@ messagePassing = record {
       ∷ [];
   source = 0;
   chip = 0;
+  tso = 5;
 }
 
 -- Release and acquire with stale read. 1: W x 1; 2: W rel y 1 | 3: R acq y 1 (rf 2); 4: R x 0 (rf 56).
@@ -63,6 +68,7 @@ releaseAcquire = record {
       ∷ [];
   source = 3;
   chip = 5;
+  tso = 5;
 }
 
 -- Load buffering. 1: R x 1 (rf 4); 2: W y 1 | 3: R y 1 (rf 2); 4: W x 1.
@@ -79,6 +85,7 @@ loadBuffering = record {
       ∷ [];
   source = 0;
   chip = 0;
+  tso = 5;
 }
 
 -- Load buffering with data links. 1: R x 1 (rf 4); 2: W y 1 (data 1) | 3: R y 1 (rf 2); 4: W x 1 (data 3).
@@ -97,6 +104,7 @@ loadBufferingData = record {
       ∷ [];
   source = 5;
   chip = 5;
+  tso = 5;
 }
 
 -- Store buffering. 1: W x 1; 2: R y 0 (rf 57) | 3: W y 1; 4: R x 0 (rf 56).
@@ -113,6 +121,7 @@ storeBuffering = record {
       ∷ [];
   source = 0;
   chip = 0;
+  tso = 0;
 }
 
 -- Store buffering with SC fences. 1: W x 1; 2: F SC; 3: R y 0 (rf 57) | 4: W y 1; 5: F SC; 6: R x 0 (rf 56).
@@ -131,6 +140,7 @@ storeBufferingFences = record {
       ∷ [];
   source = 5;
   chip = 5;
+  tso = 5;
 }
 
 -- Independent reads with acquire. 1: W x 1 | 2: W y 1 | 3: R acq x 1 (rf 1); 4: R acq y 0 (rf 57) | 5: R acq y 1 (rf 2); 6: R acq x 0 (rf 56).
@@ -151,6 +161,7 @@ independentReads = record {
       ∷ [];
   source = 0;
   chip = 5;
+  tso = 5;
 }
 
 -- Two pairs both reading the initial write. 1: R exclusive x 0 (rf 56); 2: W x 1 (rmw 1) | 3: R exclusive x 0 (rf 56); 4: W x 2 (co 2, rmw 3).
@@ -170,6 +181,7 @@ twoPairs = record {
       ∷ [];
   source = 4;
   chip = 4;
+  tso = 4;
 }
 
 -- Newer value read before older. 1: W x 1; 2: W x 2 (co 1) | 3: R x 2 (rf 2); 4: R x 1 (rf 1).
@@ -187,6 +199,7 @@ newerBeforeOlder = record {
       ∷ [];
   source = 3;
   chip = 3;
+  tso = 3;
 }
 
 -- Normal release pair before a write. 1: R y 1 (rf 6); 2: W z 1 (data 1) | 3: R z 1 (rf 2); 4: R exclusive x 0 (rf 56); 5: W rel x 1 (rmw 4); 6: W y 1.
@@ -208,6 +221,7 @@ normalPair = record {
       ∷ [];
   source = 0;
   chip = 0;
+  tso = 5;
 }
 
 -- Strong release pair before a write. 1: R y 1 (rf 6); 2: W z 1 (data 1) | 3: R z 1 (rf 2); 4: R exclusive x 0 (rf 56); 5: W rel strong x 1 (rmw 4); 6: W y 1.
@@ -229,6 +243,7 @@ strongPair = record {
       ∷ [];
   source = 5;
   chip = 5;
+  tso = 5;
 }
 
 unfoldable pub table : List Row

@@ -13,6 +13,7 @@ pub mod Ordered
 pub mod Barriers
 pub mod Corresponds
 pub mod Theorem
+pub mod TsoTheorem
 pub mod FromLoads
 pub mod FromTranslated
 pub mod Sound

@@ -115,15 +115,15 @@ module _ {E : Type 0} (G : Graph E) (O : E → E → Type 0) where
     All a = Unit {0}
 
     -- sw lies along po, or is ordered from a release point to an acquire point.
-    from-write : {a d : E} → G .set Wrel a → Q d → G .po a d ⊎ Plus O a d → HB G O L Q All a d
+    from-write : {a d : E} → G .set Wrel a → Q d → G .po a d ⊎ Plus O a d → HB G O L Q a d
     from-write w q (inl h) = along h
     from-write w q (inr p) = across (stay tt) (inl w) p q (stay tt)
 
-    from-fence : {x a d : E} → G .set Frel x → G .po x a → Q d → G .po a d ⊎ Plus O a d → HB G O L Q All x d
+    from-fence : {x a d : E} → G .set Frel x → G .po x a → Q d → G .po a d ⊎ Plus O a d → HB G O L Q x d
     from-fence {x} {a} {d} r h q (inl k) = along (f .po-trans x a d h k)
     from-fence r h q (inr p) = across (stay tt) (inr r) (cons (o .out-fence (f .release-fence r) h) p) q (stay tt)
 
-    sw-HB : (a b : E) → ⟦ sw ⟧ G a b → HB G O L Q All a b
+    sw-HB : (a b : E) → ⟦ sw ⟧ G a b → HB G O L Q a b
     sw-HB x d (b, (a, inl (on w), k), (c, v, q)) = from-write w (acquired (acquires q)) (observed k v (acquires q))
     sw-HB x d (b, (a, inr (_, on r, h), k), (c, v, q)) = from-fence r h (acquired (acquires q)) (observed k v (acquires q))
 

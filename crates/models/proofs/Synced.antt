@@ -11,12 +11,29 @@ use Rattle.models.proofs.Closure.{join, snoc, flat, collapse, Weak, wea
 use Rattle.models.proofs.Formed.{Formed}
 use Rattle.models.proofs.Location.{Com, by-rf, by-co, by-fr, no-po-com}
 
-module _ {E : Type 0} (G : Graph E) (O : E → E → Type 0) (L Q N : E → Type 0) where
+module _ {E : Type 0} (G : Graph E) (O : E → E → Type 0) (L Q : E → Type 0) where
   -- Along po, or from a release point over O to an acquire point.
   pub data HB : E → E → Type 0 where
     along : {x y : E} → G .po x y → HB x y
     across : {x a b y : E} → Weak (G .po) x a → L a → Plus O a b → Q b → Weak (G .po) b y → HB x y
 
+  -- Where O leads along po from an acquire point to a release point, HB is transitive, and it is irreflexive if O is acyclic.
+  module _ (f : Formed G) (joins : (a b : E) → Q a → G .po a b → L b → O a b) where
+    between : {a b : E} → Q a → Weak (G .po) a b → L b → Weak (Plus O) a b
+    between q (stay u) l = stay tt
+    between q (step {a} {b} h) l = step (one (joins a b q h l))
+
+    pub HB-trans : (x y z : E) → HB x y → HB y z → HB x z
+    HB-trans x y z (along h) (along k) = along (f .po-trans x y z h k)
+    HB-trans x y z (along h) (across p l o q t) = across (weak-trans (f .po-trans) (step h) p) l o q t
+    HB-trans x y z (across p l o q t) (along k) = across p l o q (weak-trans (f .po-trans) t (step k))
+    HB-trans x y z (across p l o q t) (across p′ l′ o′ q′ t′) = across p l (join (join-weak o (between q (weak-trans (f .po-trans) t p′) l′)) o′) q′ t′
+
+    pub no-HB-ring : ((a : E) → Plus O a a → ⊥) → (x : E) → HB x x → ⊥
+    no-HB-ring acyclic x (along h) = f .po-irreflexive h
+    no-HB-ring acyclic x (across {a = a} p l o q t) = acyclic a (join-weak o (between q (weak-trans (f .po-trans) t p) l))
+
+module _ {E : Type 0} (G : Graph E) (O : E → E → Type 0) (L Q N : E → Type 0) where
   -- L are the release points, Q the acquire points, N the domain of O.
   pub record Synced : Type 0 where
     pub acyclic : {a : E} → Plus O a a → ⊥
@@ -32,7 +49,7 @@ module _ {E : Type 0} (G : Graph E) (O : E → E → Type 0) (L Q N : E → Type
     pub sc : {a : E} → G .set Fsc a → N a
     pub acquire : {a : E} → Q a → N a
     pub no-read : {a : E} → G .set R a → L a → ⊥
-    pub synchronizes : (a b : E) → ⟦ sw ⟧ G a b → HB a b
+    pub synchronizes : (a b : E) → ⟦ sw ⟧ G a b → HB G O L Q a b
 
   module _ (f : Formed G) (decided : (a b : E) → Dec (G .po a b)) (coherent : Rule3 ARMv8 G) (s : Synced) where
     -- From a point of N along po to a release point, and from an acquire point to a point of N.
@@ -44,19 +61,11 @@ module _ {E : Type 0} (G : Graph E) (O : E → E → Type 0) (L Q N : E → Type
     from-acquire q (stay u) n = stay tt
     from-acquire q (step h) n = step (one (s .out q h n))
 
-    HB-trans : (x y z : E) → HB x y → HB y z → HB x z
-    HB-trans x y z (along h) (along k) = along (f .po-trans x y z h k)
-    HB-trans x y z (along h) (across p l o q t) = across (weak-trans (f .po-trans) (step h) p) l o q t
-    HB-trans x y z (across p l o q t) (along k) = across p l o q (weak-trans (f .po-trans) t (step k))
-    HB-trans x y z (across p l o q t) (across p′ l′ o′ q′ t′) =
-        across p l (join (join-weak o (to-release (s .acquire q) (weak-trans (f .po-trans) t p′) l′)) o′) q′ t′
+    joins : (a b : E) → Q a → G .po a b → L b → O a b
+    joins a b q = s .into (s .acquire q)
 
-    pub hb-HB : {x y : E} → ⟦ hb ⟧ G x y → HB x y
-    hb-HB p = collapse HB-trans (flat (λ a b. elim [ inl h ↦ one (along h) | inr h ↦ one (s .synchronizes a b h) ]) p)
-
-    no-HB-ring : {x : E} → HB x x → ⊥
-    no-HB-ring (along h) = f .po-irreflexive h
-    no-HB-ring (across p l o q t) = s .acyclic (join-weak o (to-release (s .acquire q) (weak-trans (f .po-trans) t p) l))
+    pub hb-HB : {x y : E} → ⟦ hb ⟧ G x y → HB G O L Q x y
+    hb-HB p = collapse (HB-trans G O L Q f joins) (flat (λ a b. elim [ inl h ↦ one (along h) | inr h ↦ one (s .synchronizes a b h) ]) p)
 
     -- eco is O⁺, or O* then an internal rf; it joins accesses, and is communication.
     pub data Eco : E → E → Type 0 where
@@ -94,21 +103,21 @@ module _ {E : Type 0} (G : Graph E) (O : E → E → Type 0) (L Q N : E → Type
     eco-com (ordered n m o c) = c
     eco-com (read-inside n o h q c) = c
 
-    no-HB-eco : {x y : E} → HB x y → Eco y x → ⊥
+    no-HB-eco : {x y : E} → HB G O L Q x y → Eco y x → ⊥
     no-HB-eco (along h) e = no-po-com G f coherent h (eco-com e)
     no-HB-eco (across p l o q t) e = s .acyclic (join o (weak-join (from-acquire q t (eco-source e)) (eco-release e p l)))
 
     -- Rule 3 of IMM.
     pub hb-coherent : Rule3 IMM G
-    hb-coherent a (b, h, stay e) = no-HB-ring (hb-HB h)
+    hb-coherent a (b, h, stay e) = no-HB-ring G O L Q f joins (λ x p. s .acyclic p) a (hb-HB h)
     hb-coherent a (b, h, step k) = no-HB-eco (hb-HB h) (eco-Eco b a k)
 
     -- From an SC fence by hb to a point of N, and from eco by hb to an SC fence.
-    sc-HB : {x y : E} → G .set Fsc x → HB x y → N y → Plus O x y
+    sc-HB : {x y : E} → G .set Fsc x → HB G O L Q x y → N y → Plus O x y
     sc-HB c (along h) n = one (s .out-sc c h n)
     sc-HB c (across p l o q t) n = weak-join (to-release (s .sc c) p l) (join-weak o (from-acquire q t n))
 
-    eco-HB-sc : {x y z : E} → Eco x y → HB y z → G .set Fsc z → Plus O x z
+    eco-HB-sc : {x y z : E} → Eco x y → HB G O L Q y z → G .set Fsc z → Plus O x z
     eco-HB-sc (ordered n m o c) (along h) k = snoc o (s .into-sc m h k)
     eco-HB-sc (read-inside n o h q c) (along {x = y} {y = z} k) l = weak-join o (one (s .into-sc (s .write (f .rf-write h)) (f .po-trans _ y z q k) l))
     eco-HB-sc e (across p l o q t) k = join (eco-release e p l) (join-weak o (from-acquire q t (s .sc k)))

@@ -1,4 +1,4 @@
--- The rules of the two models (003, Def. 3.11 and Def. C.1; 01, "The IMM verdict" and "The ARMv8 verdict"):
+-- The rules of the three models (003, Def. 3.11 and Def. C.1; 01, "The IMM verdict" and "The ARMv8 verdict"; 02, slip 6):
 -- as statements about a graph, and as tests over a list of events.
 use mathlib.Core.Bool.{Bool, true, false, not, _&&_, _||_}
 use mathlib.Core.List.{List, [], _∷_}
@@ -11,6 +11,7 @@ use Rattle.models.specs.Graph.{Graph, Base}
 use Rattle.models.specs.Term.{Term, rmw, _∩_, _⨾_, opt, _⁺, frₑ, coₑ, ⟦_⟧, eval}
 use Rattle.models.specs.Imm.{hb, eco, ar}
 use Rattle.models.specs.Armv8.{scPerLoc, ob}
+use Rattle.models.specs.Tso.{tso}
 
 -- A model: rules 3 and 5. Rules 1, 2 and 4 are common to all.
 pub record Model : Type 0 where
@@ -26,6 +27,10 @@ IMM = record { coherent = hb ⨾ opt eco; order = ar }
 -- Rule 3: po-loc, rf, fr and co together are acyclic. Rule 5: ob is acyclic.
 abbrev pub ARMv8 : Model
 ARMv8 = record { coherent = scPerLoc ⁺; order = ob }
+
+-- "Rules 1, 2, 4 are the common ones, rule 3 is ARMv8's." Rule 5: tso is acyclic.
+abbrev pub TSO : Model
+TSO = record { coherent = ARMv8 .coherent; order = tso }
 
 -- Rule 4: rmw ∩ (fre ; coe) is empty.
 abbrev pub broken-pair : Term
