@@ -36,11 +36,11 @@ module _ {E : Type 0} (G : Graph E) where
   node-at (sc c) = inr (on c)
 
   tso-step : (a b : E) → Tso a b → ⟦ tso ⟧ G a b
-  tso-step a b (tso-read-read r h s) = inl (inl (inl (inl (inl (inl (a, on r, (b, h, inl (on s))))))))
-  tso-step a b (tso-read-write r h w) = inl (inl (inl (inl (inl (inl (a, on r, (b, h, inr (on w))))))))
-  tso-step a b (tso-write-write v h w) = inl (inl (inl (inl (inl (inr (a, on v, (b, h, on w)))))))
-  tso-step a b (tso-into-sc n h c) = inl (inl (inl (inl (inr (a, node-at n, (b, h, inl (inl (on c))))))))
-  tso-step a b (tso-out-sc c h n) = inl (inl (inl (inr (a, inl (inl (on c)), (b, h, node-at n)))))
+  tso-step a b (tso-read-read r h s) = inl (inl (inl (inl (inl (a, on r, (b, h, inl (on s)))))))
+  tso-step a b (tso-read-write r h w) = inl (inl (inl (inl (inl (a, on r, (b, h, inr (on w)))))))
+  tso-step a b (tso-write-write v h w) = inl (inl (inl (inl (inr (a, on v, (b, h, on w))))))
+  tso-step a b (tso-into-sc n h c) = inl (inl (inl (inr (inl (a, node-at n, (b, h, inl (inl (on c))))))))
+  tso-step a b (tso-out-sc c h n) = inl (inl (inl (inr (inr (a, inl (inl (on c)), (b, h, node-at n))))))
   tso-step a b (tso-rfe h n) = inl (inl (inr (h, n)))
   tso-step a b (tso-co h) = inl (inr h)
   tso-step a b (tso-fr {w = w} h k) = inr (w, h, k)

@@ -24,13 +24,17 @@ pub record Model : Type 0 where
 abbrev pub IMM : Model
 IMM = record { coherent = hb ⨾ opt eco; order = ar }
 
--- Rule 3: po-loc, rf, fr and co together are acyclic. Rule 5: ob is acyclic.
+-- Rule 3: po-loc, rf, fr and co together are acyclic. Rule 5: the relation is acyclic.
+abbrev pub perLocation : Term → Model
+perLocation t = record { coherent = scPerLoc ⁺; order = t }
+
+-- Rule 5: ob is acyclic.
 abbrev pub ARMv8 : Model
-ARMv8 = record { coherent = scPerLoc ⁺; order = ob }
+ARMv8 = perLocation ob
 
 -- "Rules 1, 2, 4 are the common ones, rule 3 is ARMv8's." Rule 5: tso is acyclic.
 abbrev pub TSO : Model
-TSO = record { coherent = ARMv8 .coherent; order = tso }
+TSO = perLocation tso
 
 -- Rule 4: rmw ∩ (fre ; coe) is empty.
 abbrev pub broken-pair : Term

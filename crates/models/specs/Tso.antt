@@ -2,14 +2,22 @@
 use Rattle.models.specs.Recording.{R, W, Fsc}
 use Rattle.models.specs.Term.{Term, po, co, rmw, ⟨_⟩, ⟨codom_⟩, _⨾_, _∪_, _⁻¹, fr, rfₑ}
 
--- "an SC fence or an event of an rmw pair": its read, in dom(rmw), or its write, in codom(rmw)
+-- preserved program order: "po between reads and writes except from a write to a read"
+abbrev pub ppo : Term
+ppo = ⟨ R ⟩ ⨾ po ⨾ (⟨ R ⟩ ∪ ⟨ W ⟩) ∪ ⟨ W ⟩ ⨾ po ⨾ ⟨ W ⟩
+
+-- "an SC fence or an event of an rmw pair": its read, in dom(rmw) = codom(rmw⁻¹), or its write, in codom(rmw)
 abbrev pub full : Term
 full = ⟨ Fsc ⟩ ∪ ⟨codom (rmw ⁻¹) ⟩ ∪ ⟨codom rmw ⟩
 
--- What has steps at all: "Fences of modes 1 to 3 have no step here, not even to or from a pair."
+-- What has steps: "Fences of modes 1 to 3 have no step here, not even to or from a pair."
 abbrev pub node : Term
 node = ⟨ R ⟩ ∪ ⟨ W ⟩ ∪ ⟨ Fsc ⟩
 
--- "po between reads and writes except from a write to a read; po into or out of an SC fence or an event of an rmw pair; rfe, co, fr."
+-- "po into or out of an SC fence or an event of an rmw pair"
+abbrev pub fenced : Term
+fenced = node ⨾ po ⨾ full ∪ full ⨾ po ⨾ node
+
+-- "Rule 5 forbids rings of: [the two above]; rfe, co, fr."
 abbrev pub tso : Term
-tso = ⟨ R ⟩ ⨾ po ⨾ (⟨ R ⟩ ∪ ⟨ W ⟩) ∪ ⟨ W ⟩ ⨾ po ⨾ ⟨ W ⟩ ∪ node ⨾ po ⨾ full ∪ full ⨾ po ⨾ node ∪ rfₑ ∪ co ∪ fr
+tso = ppo ∪ fenced ∪ rfₑ ∪ co ∪ fr
