@@ -8,6 +8,7 @@ use verdict::Verdict;
 use verdict::base;
 use verdict::base::Relations;
 use verdict::base::Sets;
+use verdict::per_location;
 use verdict::rules;
 use verdict::shown;
 ghost use Rattle.verdict.specs.Base.{baseOf};
@@ -17,31 +18,15 @@ ghost use Rattle.armv8.specs.Judged.{Judged};
 pub fn judge(sets: Sets, relations: Relations) -> Verdict
     ensures { λ r. ⌜ Judged (baseOf sets relations) r ⌝ }
 {
-    // Rules 1 and 2.
-    let incomplete = shown::completeness(sets, relations);
-    if incomplete.len != 0 {
-        return incomplete;
-    }
     let po = relations[base::PO];
-    let rf = relations[base::RF];
     let co = relations[base::CO];
-    let poloc = grid::and(po, relations[base::LOC]);
-    let fr = rules::fr(rf, co);
-    // Rule 3.
-    let sc_per_loc = grid::or(grid::or(grid::or(poloc, rf), fr), co);
-    let returning = grid::diagonal(grid::closure(sc_per_loc));
-    let incoherent = shown::coherence(returning, sc_per_loc, sc_per_loc);
-    if incoherent.len != 0 {
-        return incoherent;
-    }
-    // Rule 4.
-    let fre = grid::minus(fr, po);
-    let coe = grid::minus(co, po);
-    let broken = shown::atomicity(relations[base::RMW], fre, coe);
+    let fr = rules::fr(relations[base::RF], co);
+    // Rules 1 to 4.
+    let broken = per_location::tried(sets, relations, fr);
     if broken.len != 0 {
         return broken;
     }
     // Rule 5.
-    let ob = ob::ob(sets, relations, fre, coe);
+    let ob = ob::ob(sets, relations, grid::minus(fr, po), grid::minus(co, po));
     shown::acyclicity(ob, sets[base::EVENTS])
 }

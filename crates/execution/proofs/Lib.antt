@@ -1,3 +1,4 @@
 -- Theorems of `execution`.
 pub mod BaseOf
 pub mod AllShown
+pub mod PerLocationShown

@@ -31,14 +31,14 @@ pub record OnFile (s : Side) (M : models.Model) (Judged : Base → Verdict → T
   pub judged : LoadsAs s f → OnRecording M Judged (decode f) v
 
 -- "Allowed: all events": where a verdict on the file f is allowed, it shows every event of the recording exactly once.
--- `imm-shows-all` and `armv8-shows-all` prove it of every verdict that is `OnFile`.
+-- `imm-shows-all`, `armv8-shows-all` and `tso-shows-all` prove it of every verdict that is `OnFile`.
 abbrev pub ShowsAll : List ℕ → Verdict → Type 0
 ShowsAll f v = v .answer ≡ answers 0 → EachOnce (event (decode f)) (events v)
 
 -- "Every other ring that may be shown has at least as many" (02, slip 5), in the words of the rules: of all ways in which the execution graph of
--- the file f breaks the rule that is named, none has fewer steps than the verdict v shows events. Rule 5 is broken by steps of ar or ob from
--- an event back to itself, as many as `count` says; `steps3` says how many steps a way has that breaks rule 3.
--- `imm-shows-fewest` and `armv8-shows-fewest` prove it of every verdict that is `OnFile`.
+-- the file f breaks the rule that is named, none has fewer steps than the verdict v shows events. Rule 5 is broken by steps of ar, ob or tso
+-- from an event back to itself, as many as `count` says; `steps3` says how many steps a way has that breaks rule 3.
+-- `imm-shows-fewest`, `armv8-shows-fewest` and `tso-shows-fewest` prove it of every verdict that is `OnFile`.
 pub record ShowsFewest (M : models.Model) (f : List ℕ) (steps3 : (a : ℕ) → ⟦ M .coherent ⟧ (graph (decode f)) a a → ℕ) (v : Verdict) : Type 0 where
   pub rule3 : v .answer ≡ answers 3 → (a : ℕ) (way : ⟦ M .coherent ⟧ (graph (decode f)) a a) → length (events v) ≤ steps3 a way
   pub rule5 : v .answer ≡ answers 5 → (a : ℕ) (way : ⟦ M .order ⁺ ⟧ (graph (decode f)) a a) → length (events v) ≤ count way

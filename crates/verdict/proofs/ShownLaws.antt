@@ -139,6 +139,10 @@ module _ (M : Model) (B : Base) (steps closing : Rel) (v : Verdict) where
   pub tried-none : (k : ℕ) → v .len ≡ 0 → Hold k M B → Tried k steps closing M B v
   tried-none k e hold = record { broken = λ d. absurd (d e); holds = λ z. hold }
 
+  -- What was found to be broken is so where more rules are tried.
+  pub tried-broken : (j k : ℕ) → (v .len ≡ 0 → ⊥) → Tried j steps closing M B v → Tried k steps closing M B v
+  tried-broken j k d w = record { broken = w .broken; holds = λ e. absurd (d e) }
+
   found : (k : ℕ) → 0 < length (events v) → Shown steps closing M B v → Tried k steps closing M B v
   found k h w =
       record { broken = λ d. w; holds = λ e. absurd (omega (arith, h, ap (λ (n : ℕ). length (take n (v .at))) e)) }

@@ -2,3 +2,4 @@
 pub mod Answer
 pub mod Base
 pub mod Shown
+pub mod PerLocation

@@ -1,8 +1,9 @@
 // What the verdicts of all memory models share: their answer, the base of an execution graph as arrays,
 // what the rules forbid that every model has, and the checks of the rules, in order, with what is shown of the first broken one.
-// The rules are those of `models`; nothing here knows a model.
+// The rules are those of `models`. Nothing here knows a model: `per_location` is of those that have that rule 3, whatever their rule 5 is.
 
 pub mod base;
+pub mod per_location;
 pub mod rules;
 pub mod shown;
 

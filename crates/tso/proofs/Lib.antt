@@ -1,0 +1,3 @@
+-- The theorems of `tso`.
+pub mod TsoShowsAll
+pub mod TsoShowsFewest

@@ -1,0 +1,2 @@
+-- The definitions that the contracts of `tso` cite.
+pub mod Judged
