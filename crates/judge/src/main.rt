@@ -6,8 +6,8 @@ use recording::INPUT;
 fn main() {
     let mut start = [0u8; INPUT];
     let n = console::read(&mut start);
-    let text = judgement::of_input(start, n);
-    if console::print(STDOUT_FILENO, text.first) {
-        console::print(STDOUT_FILENO, text.second);
-    }
+    let lines = judgement::of_input(start, n);
+    let at = lines.at;
+    let len = lines.len;
+    console::write(STDOUT_FILENO, &at[..len]);
 }

@@ -4,24 +4,13 @@ use mathlib.Core.List.{List}
 use Prim.Native.Nat.{ℕ, _≤_}
 use native.Mathlib.Omega.{arith}
 use lib.ListN.{length, take}
-use lib.Seq.{length-take-le}
 use Rattle.recording.specs.Causes.{refusal}
-use Rattle.lines.specs.declared.Text.{Text}
-use Rattle.lines.specs.Put.{bytes}
-use Rattle.output.specs.Output.{placed, Fills}
+use Rattle.output.specs.Output.{Fills}
 use Rattle.output.specs.declared.Filled.{Filled}
 use Rattle.output.specs.declared.Filled.the-variants.{Refused, Written}
-use Rattle.output.proofs.OutputLaws.{placed-begins}
 use Rattle.output.proofs.FillLaws.{fills-fits, fills-wrote}
 use Rattle.printout.specs.Page.{page}
 use Rattle.printout.proofs.PageCall.{few-bytes}
-
-pub text-size : (t : Text) → length (t .at) ≡ 320 → t .len ≤ 320 → length (bytes t) ≡ t .len
-text-size t long h = length-take-le (t .len) (t .at) (omega arith)
-
--- A text that is put at the start of an output.
-pub text-begins : (t : Text) (out left : List ℕ) → length (t .at) ≡ 320 → t .len ≤ 320 → left ≡ placed out 0 (bytes t) → take (t .len) left ≡ bytes t
-text-begins t out left long h e = ap (take (t .len)) e ∙ placed-begins out (bytes t) (t .len) (text-size t long h)
 
 -- Of a file that loads.
 module _ (f ring out : List ℕ) (r : Filled) (left : List ℕ) (loads : refusal f ≡ 0) (w : Fills (refusal f) (page f ring) out r left) where

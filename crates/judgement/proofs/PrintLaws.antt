@@ -1,4 +1,4 @@
--- Laws of what is printed: demand 3 of the two verdicts, and the text by what loading answers.
+-- Laws of what is printed: what the verdicts of the models say of each other, and the text by what loading answers.
 use mathlib.Core.Path.{_≡_, sym, ap, ap₂, subst, _∙_}
 use mathlib.Core.Bool.{true, false, false≢true}
 use mathlib.Core.List.{List}
@@ -20,16 +20,24 @@ use Rattle.verdict.specs.Answer.{refuses, answers}
 use Rattle.verdict.proofs.ShownMeaning.{answers-injective}
 use Rattle.translation.specs.Translation.{translation}
 use Rattle.lines.specs.Lines.{chip, lineOf}
-use Rattle.soundness.specs.Soundness.{immVerdict, armv8Verdict}
-use Rattle.soundness.proofs.Proved.{soundness}
-use Rattle.judgement.specs.Judgement.{OnSource, OnChip, lineFor, TextOf}
+use Rattle.soundness.specs.Soundness.{immVerdict, armv8Verdict, tsoVerdict}
+use Rattle.soundness.proofs.Proved.{soundness, tso-soundness}
+use Rattle.judgement.specs.Judgement.{OnSource, OnChip, OnTso, lineFor, TextOf}
 
--- Demand 3, for the verdicts on a source file that loads and on its translation.
-pub both-sound : (f : List ℕ) (v w : Verdict) → LoadsAs layout.source f → OnSource f v → OnChip (translation f) w → w .answer ≡ answers 0 → v .answer ≡ answers 0
-unfolding immVerdict armv8Verdict
-both-sound f v w l on chip-on h =
-    let allowed = answers-injective _ 0 (sym (chip-on .shown .answer) ∙ h) in
-    on .shown .answer ∙ ap answers (soundness f l .allowed-back allowed)
+-- Verdicts of which one is allowed where the other is, as answers.
+allowed-sound : (m n : ℕ) (v w : Verdict) → v .answer ≡ answers m → w .answer ≡ answers n → (n ≡ 0 → m ≡ 0) → w .answer ≡ answers 0 → v .answer ≡ answers 0
+allowed-sound m n v w p q back h = p ∙ ap answers (back (answers-injective n 0 (sym q ∙ h)))
+
+module _ (f : List ℕ) (v w : Verdict) (l : LoadsAs layout.source f) (on : OnSource f v) where
+  -- Demand 3, for the verdicts on a source file that loads and on its translation.
+  pub chip-sound : OnChip (translation f) w → w .answer ≡ answers 0 → v .answer ≡ answers 0
+  unfolding immVerdict armv8Verdict
+  chip-sound chip-on = allowed-sound _ _ v w (on .shown .answer) (chip-on .shown .answer) (soundness f l .allowed-back)
+
+  -- Slip 6, for the verdicts of IMM and of x86-TSO on a source file that loads.
+  pub tso-sound : OnTso f w → w .answer ≡ answers 0 → v .answer ≡ answers 0
+  unfolding immVerdict tsoVerdict
+  tso-sound tso-on = allowed-sound _ _ v w (on .shown .answer) (tso-on .shown .answer) (tso-soundness f l)
 
 -- What is printed, by what loading answered.
 module _ (Source Chip : List ℕ → List ℕ → Type 0) (f : List ℕ) (a : Load) (is : a ≡ loadOf f) where

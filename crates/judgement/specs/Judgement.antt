@@ -1,8 +1,9 @@
--- What is said of a file as a whole: the verdicts and the lines that are printed (01, "What is shown"), and the printed page (02, slip 2).
+-- What is said of a file as a whole: the verdicts and the lines that are printed (01, "What is shown"; 02, slip 6), and the printed page
+-- (02, slip 2).
 use mathlib.Core.Path.{_≡_}
 use mathlib.Core.List.{List, [], _++_}
 use Prim.Native.Nat.{ℕ, suc}
-use Rattle.models.specs.Rules.{IMM, ARMv8}
+use Rattle.models.specs.Rules.{IMM, ARMv8, TSO}
 use Rattle.layout.specs.Layout as layout
 use Rattle.layout.specs.Decode.{decode}
 use Rattle.recording.specs.Causes.{refusal}
@@ -15,16 +16,21 @@ use Rattle.verdict.specs.Shown.{events}
 use Rattle.execution.specs.OnFile.{OnRecording}
 use Rattle.imm.specs.Judged as imm
 use Rattle.armv8.specs.Judged as armv8
+use Rattle.tso.specs.Judged as tso
 use Rattle.translation.specs.Translation.{translation}
 use Rattle.lines.specs.Lines.{source, chip, lineOf}
+use Rattle.lines.specs.Lines as lines
 use Rattle.printout.specs.Page.{page}
 
--- v is the IMM verdict, or the ARMv8 verdict, on the recording of a file that loads.
+-- v is the IMM verdict, the ARMv8 verdict, or the x86-TSO verdict, on the recording of a file that loads.
 abbrev pub OnSource : List ℕ → Verdict → Type 0
 OnSource f v = OnRecording IMM imm.Judged (decode f) v
 
 abbrev pub OnChip : List ℕ → Verdict → Type 0
 OnChip f v = OnRecording ARMv8 armv8.Judged (decode f) v
+
+abbrev pub OnTso : List ℕ → Verdict → Type 0
+OnTso f v = OnRecording TSO tso.Judged (decode f) v
 
 -- The line of a verdict.
 abbrev pub lineFor : List ℕ → Verdict → List ℕ
@@ -37,14 +43,18 @@ pub record TextOf (Source Chip : List ℕ → List ℕ → Type 0) (f text : Lis
   pub on-source : LoadsAs layout.source f → Source f text
   pub on-chip : LoadsAs layout.chip f → Chip f text
 
--- "Kind 1 prints a source line, then a chip line": that of its translation. Where the translation is allowed, so is the source (demand 3).
+-- "Kind 1 prints a source line, then a chip line": that of its translation. "For a source recording the judge gains a last line beginning
+-- `tso`" (02, slip 6). Where the translation is allowed, so is the source (demand 3); where x86-TSO allows the source, so does IMM.
 pub record SourceLines (f text : List ℕ) : Type 0 where
   pub on-source : Verdict
   pub on-chip : Verdict
+  pub on-tso : Verdict
   pub judged : OnSource f on-source
   pub judged-chip : OnChip (translation f) on-chip
+  pub judged-tso : OnTso f on-tso
   pub sound : on-chip .answer ≡ answers 0 → on-source .answer ≡ answers 0
-  pub prints : text ≡ lineFor source on-source ++ lineFor chip on-chip
+  pub tso-sound : on-tso .answer ≡ answers 0 → on-source .answer ≡ answers 0
+  pub prints : text ≡ (lineFor source on-source ++ lineFor chip on-chip) ++ lineFor lines.tso on-tso
 
 -- "kind 2 a chip line"
 pub record ChipLine (f text : List ℕ) : Type 0 where

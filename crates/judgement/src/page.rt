@@ -1,5 +1,6 @@
 // What the program page prints of a file: its page with the ring of its own verdict, or the line of its refusal.
 
+use lines::Model;
 use lines::Text;
 use output::Filled;
 use printout::MOST;
@@ -74,7 +75,7 @@ pub fn printed(file: &[u8]) -> Page
 {
     let answer = causes::load(file);
     let Load::Loaded(h) = answer else {
-        return line(lines::line(true, verdict::refused(causes::number(answer))));
+        return line(lines::line(Model::Chip, verdict::refused(causes::number(answer))));
     };
     let source = h.source;
     if source {

@@ -1,10 +1,11 @@
--- The lines that the judge prints (01, "What is shown"), as bytes in ASCII.
+-- The lines that the judge prints (01, "What is shown"; 02, slip 6), as bytes in ASCII.
 use mathlib.Core.List.{List, [], _∷_, _++_, map}
-use mathlib.Core.Bool.{Bool, true, false}
 use Prim.Native.Nat.{ℕ}
 use Rattle.decimal.specs.Decimal.{decimal}
 use Rattle.verdict.specs.declared.Answer.{Answer}
 use Rattle.verdict.specs.declared.Answer.the-variants.{Refused, Allowed, Broken}
+use Rattle.lines.specs.declared.Model.{Model}
+use Rattle.lines.specs.declared.Model.the-variants.{Source, Chip, Tso}
 
 -- The words.
 abbrev pub source : List ℕ
@@ -12,6 +13,9 @@ source = 115 ∷ 111 ∷ 117 ∷ 114 ∷ 99 ∷ 101 ∷ []
 
 abbrev pub chip : List ℕ
 chip = 99 ∷ 104 ∷ 105 ∷ 112 ∷ []
+
+abbrev pub tso : List ℕ
+tso = 116 ∷ 115 ∷ 111 ∷ []
 
 abbrev pub allowed : List ℕ
 allowed = 97 ∷ 108 ∷ 108 ∷ 111 ∷ 119 ∷ 101 ∷ 100 ∷ []
@@ -23,9 +27,10 @@ abbrev pub refused : List ℕ
 refused = 114 ∷ 101 ∷ 102 ∷ 117 ∷ 115 ∷ 101 ∷ 100 ∷ []
 
 -- The model's word.
-abbrev pub modelWord : Bool → List ℕ
-modelWord true = chip
-modelWord false = source
+abbrev pub modelWord : Model → List ℕ
+modelWord Source = source
+modelWord Chip = chip
+modelWord Tso = tso
 
 -- Each with a space before it.
 abbrev pub spaced : List (List ℕ) → List ℕ

@@ -11,6 +11,13 @@ ghost use Rattle.decimal.specs.Decimal.{decimal};
 ghost use Rattle.lines.specs.Lines.{modelWord, spaced, lineOf};
 ghost use Rattle.lines.specs.Put.{bytes, Room, Put};
 
+// The model that a line is of: IMM or x86-TSO on a source recording, ARMv8 on a chip recording.
+pub enum Model {
+    Source,
+    Chip,
+    Tso,
+}
+
 // Bytes: the first len of at.
 pub struct Text {
     pub at: [u8; 320],
@@ -93,21 +100,22 @@ fn put_events(t: Text, at: [u8; 64], len: usize) -> Text
 }
 
 // The model's word.
-fn model(chip: bool) -> Text
-    ensures word { λ r. ⌜ bytes r ≡ modelWord chip ⌝ }
+fn word(model: Model) -> Text
+    ensures word { λ r. ⌜ bytes r ≡ modelWord model ⌝ }
     ensures short { λ r. ⌜ r .len ≤ 6 ⌝ }
 {
     let t = empty();
-    if chip {
-        return put_word(t, b"chip");
+    match model {
+        Model::Source => put_word(t, b"source"),
+        Model::Chip => put_word(t, b"chip"),
+        Model::Tso => put_word(t, b"tso"),
     }
-    put_word(t, b"source")
 }
 
-// The line of a verdict under the chip's model or the source's.
-pub fn line(chip: bool, v: Verdict) -> Text
+// The line of a model's verdict.
+pub fn line(model: Model, v: Verdict) -> Text
     requires { ⌜ v .len ≤ 64 ⌝ }
-    ensures line { λ r. ⌜ bytes r ≡ lineOf (modelWord chip) (v .answer) (take (v .len) (v .at)) ⌝ }
+    ensures line { λ r. ⌜ bytes r ≡ lineOf (modelWord model) (v .answer) (take (v .len) (v .at)) ⌝ }
     ensures bounded { λ r. ⌜ r .len ≤ 320 ⌝ }
 {
     let answer = v.answer;
@@ -119,11 +127,11 @@ pub fn line(chip: bool, v: Verdict) -> Text
             put(put_number(t, k), b'\n')
         }
         Answer::Allowed => {
-            let t = put_word(model(chip), b" allowed");
+            let t = put_word(word(model), b" allowed");
             put(put_events(t, at, n), b'\n')
         }
         Answer::Broken(k) => {
-            let t = put_number(put_word(model(chip), b" broken"), k);
+            let t = put_number(put_word(word(model), b" broken"), k);
             put(put_events(t, at, n), b'\n')
         }
     }

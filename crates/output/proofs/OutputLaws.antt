@@ -62,10 +62,16 @@ placed-placed d at x y place h e =
     ∙ append-assoc (take at d) x (y ++ drop (at + length (x ++ y)) d)
     ∙ ap (_++_ (take at d)) (sym (append-assoc x y (drop (at + length (x ++ y)) d)))
 
--- An output begins with what is placed at its start.
-pub placed-begins : (d x : List ℕ) (n : ℕ) → length x ≡ n → take n (placed d 0 x) ≡ x
+-- What is placed stands behind what stood before it, and at the start where nothing did.
+pub placed-extends : (d : List ℕ) (at : ℕ) (x : List ℕ) (n : ℕ) → at ≤ length d → at + length x ≡ n → take n (placed d at x) ≡ take at d ++ x
 unfolding placed
-placed-begins d x n e = take-at x (drop (0 + length x) d) n e
+placed-extends d at x n h e =
+    let rest = drop (at + length x) d in
+    let long : length (take at d ++ x) ≡ n = length-append (take at d) x ∙ omega (arith, e, length-take-le at d h) in
+    ap (take n) (sym (append-assoc (take at d) x rest)) ∙ take-at (take at d ++ x) rest n long
+
+pub placed-begins : (d x : List ℕ) (n : ℕ) → length x ≡ n → take n (placed d 0 x) ≡ x
+placed-begins d x n e = placed-extends d 0 x n (omega arith) (omega (arith, e))
 
 -- What is placed in a part that reaches to the end is placed in the whole.
 pub part-placed : (d : List ℕ) (start : ℕ) (x part : List ℕ) → start ≤ length d → part ≡ placed (take (length d - start) (drop start d)) 0 x

@@ -11,9 +11,10 @@ ghost use Prim.Native.Nat.{ℕ, _≤_};
 ghost use Rattle.layout.specs.Layout.{source, chip};
 ghost use Rattle.recording.specs.Causes.{refusal};
 ghost use Rattle.recording.specs.Load.{causeFor};
-ghost use Rattle.models.specs.Rules.{IMM, ARMv8};
+ghost use Rattle.models.specs.Rules.{IMM, ARMv8, TSO};
 ghost use Rattle.imm.specs.Judged as imm;
 ghost use Rattle.armv8.specs.Judged as armv8;
+ghost use Rattle.tso.specs.Judged as tso;
 ghost use Rattle.verdict.specs.Answer.{refusalOf, ruleOf};
 ghost use Rattle.output.specs.declared.Filled.the-variants.{Written};
 ghost use Rattle.translation.specs.Translation.{translation};
@@ -91,6 +92,15 @@ pub extern "C" fn probe_armv8(file: &[u8], out: &mut [u8]) -> u64
     reported(armv8::file::verdict(file), out)
 }
 
+// The x86-TSO verdict on a source file; the events that are shown of it, at most 64, fill the output's start. Refused with a number, 1 to 13,
+// the output stays as it was.
+#[no_mangle]
+pub extern "C" fn probe_tso(file: &[u8], out: &mut [u8]) -> u64
+    ensures { λ r. ⌜ Reports source TSO tso.Judged (now (file .entry)) (now (out .entry)) r (now (out .exit)) ⌝ }
+{
+    reported(tso::file::verdict(file), out)
+}
+
 // Writes the translation of a source file, at most 1320 bytes, to the start of the output. Refused with a number, 1 to 13, the output
 // stays as it was.
 #[no_mangle]
@@ -110,23 +120,14 @@ pub extern "C" fn probe_page(file: &[u8], ring: &[u8], out: &mut [u8]) -> u64
     answered(0, printout::page(file, ring, out))
 }
 
-// Writes the lines that the judge prints of a file, at most 640 bytes, to the start of the output. Refused with 12 where the output is
+// Writes the lines that the judge prints of a file, at most 960 bytes, to the start of the output. Refused with 12 where the output is
 // shorter than the lines, and then it stays as it was.
 #[no_mangle]
 pub extern "C" fn probe_judge(file: &[u8], out: &mut [u8]) -> u64
     ensures { λ r. ⌜ Printed (now (file .entry)) (now (out .entry)) r (now (out .exit)) ⌝ }
 {
-    let text = judgement::printed(file);
-    let first = text.first;
-    let second = text.second;
-    let at = first.at;
-    let n = first.len;
-    let more = second.at;
-    let m = second.len;
-    if out.len() < n + m {
-        return coded(12, 0, 0);
-    }
-    output::put(out, 0, &at[..n]);
-    output::put(out, n, &more[..m]);
-    coded(0, 0, n + m)
+    let lines = judgement::printed(file);
+    let at = lines.at;
+    let n = lines.len;
+    answered(0, output::fill(out, &at[..n]))
 }

@@ -3,6 +3,7 @@
 
 use libc::STDERR_FILENO;
 use libc::STDOUT_FILENO;
+use lines::Model;
 use output::Filled;
 use recording::INPUT;
 
@@ -12,7 +13,7 @@ fn main() {
     let mut bytes = [0u8; 1320];
     match translation::of_input(start, n, &mut bytes) {
         Filled::Refused(k) => {
-            console::print(STDERR_FILENO, lines::line(true, verdict::refused(k)));
+            console::print(STDERR_FILENO, lines::line(Model::Chip, verdict::refused(k)));
         }
         Filled::Written(m) => {
             console::write(STDOUT_FILENO, &bytes[..m]);

@@ -18,7 +18,7 @@ returns c = (
 returns-2 : tie.Need-returns-2
 returns-2 c = (
   allowed-line _ _ (c .before .before .before .before .before .enum-told .given .1)
-      (c .before .before .before .before .model .ensures .0) (c .before .before .put-word2 .ensures)
+      (c .before .before .before .before .word .ensures .0) (c .before .before .put-word2 .ensures)
       (c .before .put-events .ensures .0) (c .put2 .ensures),
   c .put2 .ensures .bound,
 )
@@ -26,7 +26,7 @@ returns-2 c = (
 returns-3 : tie.Need-returns-3
 returns-3 c = (
   broken-line _ _ (c .before .before .before .before .before .before .before .answer2 .given .1)
-      (c .before .before .before .before .before .model2 .ensures .0) (c .before .before .before .put-word3 .ensures)
+      (c .before .before .before .before .before .word2 .ensures .0) (c .before .before .before .put-word3 .ensures)
       (c .before .before .put-number2 .ensures .0) (c .before .put-events2 .ensures .0) (c .put3 .ensures),
   c .put3 .ensures .bound,
 )

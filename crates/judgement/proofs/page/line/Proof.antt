@@ -2,7 +2,7 @@
 use mathlib.Core.Path.{_≡_, sym}
 use native.Mathlib.Omega.{arith}
 use lib.ListN.{length}
-use Rattle.judgement.proofs.PageLaws.{text-size, text-begins}
+use Rattle.judgement.proofs.TextLaws.{text-size, text-begins}
 use borrow.Author.Needs.{needs}
 use Rattle.judgement.proofs.page.line.Statement.{statement}
 use Rattle.judgement.proofs.page.line.Tie as tie
@@ -20,7 +20,7 @@ returns : tie.Need-returns
 returns c =
     let t = c .before .before .before .before .before in
     let long : length (t .args .text .at) ≡ 320 = search needs in
-    (text-begins (t .args .text) _ _ long (t .pre) (c .before .put .ensures), omega (arith, t .pre))
+    (text-begins (t .args .text) long (t .pre) _ _ (c .before .put .ensures), omega (arith, t .pre))
 
 pub line-spec : {M : Type 1} → statement M
 line-spec =
