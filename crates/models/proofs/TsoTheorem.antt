@@ -1,4 +1,5 @@
--- x86-TSO and IMM (02, slip 6): where x86-TSO allows a graph, IMM allows it.
+-- x86-TSO and IMM (02, slip 6): where x86-TSO allows a graph, IMM allows it. 003 notes it at the opening of section 4: "IMM can be
+-- straightforwardly shown to be weaker than x86-TSO".
 use mathlib.Core.Logic.{_⊎_, inl, inr}
 use Rattle.models.specs.Steps.{Plus, one, cons, on, stay, step}
 use Rattle.models.specs.Recording.{R, W, Wrel, Facq, Frel, Fsc, Racq}
