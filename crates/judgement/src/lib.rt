@@ -60,10 +60,12 @@ pub fn of_source(file: &[u8]) -> Verdicts
     ensures sound { λ r. ⌜ (r .chip .answer ≡ answers 0 → r .source .answer ≡ answers 0) ⌝ }
     ensures tso_sound { λ r. ⌜ (r .tso .answer ≡ answers 0 → r .source .answer ≡ answers 0) ⌝ }
 {
+    let sets = execution::sets(file);
+    let relations = execution::relations(file);
     Verdicts {
-        source: imm::file::loaded(file),
+        source: imm::judge(sets, relations),
         chip: chip(file),
-        tso: tso::file::loaded(file),
+        tso: tso::judge(sets, relations),
     }
 }
 
