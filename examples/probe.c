@@ -1,9 +1,10 @@
 /* A small program over the library: what a firmware engineer writes to call it.
  *
  *     probe verdict FILE             the verdict on a recording, by IMM (source) or ARMv8 (chip), and the events shown
+ *     probe tso FILE                 the verdict of x86-TSO on a source recording, and the events shown
  *     probe translate FILE OUT       writes the translation of a source recording
  *     probe judge FILE               the lines that the program judge prints
- *     probe page FILE                the printed page, with a star at each event of a broken verdict
+ *     probe page FILE                the printed page, with a star at each event of a broken verdict by IMM or ARMv8
  *
  * Exit status: 0 allowed or done, 1 broken, 2 refused, 3 misuse, or a file that cannot be read or written. */
 #include "probe.h"
@@ -56,10 +57,9 @@ static probe_answer ask(size_t length, const char **model)
     return answer;
 }
 
-static int verdict(size_t length)
+/* Prints a verdict with the events that are shown. */
+static int say(probe_answer answer, const char *model)
 {
-    const char *model;
-    probe_answer answer = ask(length, &model);
     if (PROBE_REFUSAL(answer) != 0)
         return refused(answer);
     unsigned rule = PROBE_RULE(answer);
@@ -71,6 +71,18 @@ static int verdict(size_t length)
         printf(" %u", events[i]);
     printf("\n");
     return printed(rule != 0);
+}
+
+static int verdict(size_t length)
+{
+    const char *model;
+    probe_answer answer = ask(length, &model);
+    return say(answer, model);
+}
+
+static int tso(size_t length)
+{
+    return say(probe_tso(file, length, events, sizeof events), "x86-TSO");
 }
 
 static int translate(size_t length, const char *name)
@@ -123,7 +135,7 @@ int main(int count, char **words)
     static const struct {
         const char *word;
         int (*run)(size_t length);
-    } printing[] = {{"verdict", verdict}, {"judge", judge}, {"page", page}};
+    } printing[] = {{"verdict", verdict}, {"tso", tso}, {"judge", judge}, {"page", page}};
     const char *word = count > 1 ? words[1] : "";
     size_t length = 0;
     for (size_t i = 0; i < sizeof printing / sizeof printing[0]; i++)
@@ -131,6 +143,6 @@ int main(int count, char **words)
             return read_file(words[2], &length) ? printing[i].run(length) : 3;
     if (count == 4 && strcmp(word, "translate") == 0)
         return read_file(words[2], &length) ? translate(length, words[3]) : 3;
-    fprintf(stderr, "usage: probe verdict FILE | translate FILE OUT | judge FILE | page FILE\n");
+    fprintf(stderr, "usage: probe verdict FILE | tso FILE | translate FILE OUT | judge FILE | page FILE\n");
     return 3;
 }

@@ -42,14 +42,14 @@ enum {
     PROBE_LINK = 8,         /* link type not 1 to 7, its conditions broken, or its last byte not 0 */
     PROBE_CO_RING = 9,      /* co leads back to its start */
     PROBE_STRONG = 10,      /* strong write without rmw */
-    PROBE_OTHER_KIND = 11,  /* probe_imm or probe_translate of a chip file, probe_armv8 of a source file */
+    PROBE_OTHER_KIND = 11,  /* probe_imm, probe_tso or probe_translate of a chip file, probe_armv8 of a source file */
     PROBE_ROOM = 12         /* out is shorter than what is to be written; nothing was written */
 };
 
 /* Room that is always enough. */
-#define PROBE_MOST_EVENTS 64u        /* for probe_imm and probe_armv8 */
+#define PROBE_MOST_EVENTS 64u        /* for probe_imm, probe_armv8 and probe_tso */
 #define PROBE_MOST_TRANSLATION 1320u /* for probe_translate */
-#define PROBE_MOST_LINES 640u        /* for probe_judge */
+#define PROBE_MOST_LINES 960u        /* for probe_judge */
 #define PROBE_MOST_PAGE 1458u        /* for probe_page */
 
 /* A file that loads has at most so many bytes. */
@@ -58,25 +58,28 @@ enum {
 /* Does the file load? Refusals 1 to 10 and 13; writes nothing. */
 probe_answer probe_load(const uint8_t *file, size_t length);
 
-/* The verdict of IMM on a source file, and of ARMv8 on a chip file. Refusals 1 to 13.
+/* The verdict of IMM and that of x86-TSO on a source file, and of ARMv8 on a chip file. Refusals 1 to 13.
  * Writes the numbers of the events that are shown, a byte each; an initial write of location l has the number 56 + l:
- *   allowed          all events, ordered by ar (IMM) or ob (ARMv8), always taking next the smallest number whose predecessors are out;
- *                    initial writes need not come first
+ *   allowed          all events, ordered by the relation of rule 5 (IMM: ar, ARMv8: ob, x86-TSO: tso), always taking next the
+ *                    smallest number whose predecessors are out; initial writes need not come first
  *   broken 1         the smallest read that has no source
  *   broken 2         two writes of one location that co does not order: the pair with the smallest first, then the smallest second
  *   broken 4         the read and the write of a pair that another write comes between: the pair with the smallest read
  *   broken 3 and 5   a ring of distinct events, the smallest first, each ordered before the next and the last before the first;
  *                    no ring that may be shown has fewer events, and which of several that have as few is shown is free
+ * A source file that probe_imm calls broken, under any rule, is one that probe_tso calls broken.
  * docs/FORMAT.md has the rules and the relations, docs/READING.md how to read what is shown. */
 probe_answer probe_imm(const uint8_t *file, size_t length, uint8_t *out, size_t room);
 probe_answer probe_armv8(const uint8_t *file, size_t length, uint8_t *out, size_t room);
+probe_answer probe_tso(const uint8_t *file, size_t length, uint8_t *out, size_t room);
 
 /* The translation of a source file to ARMv8 instructions, a chip file that loads. Refusals 1 to 13.
  * A source file that probe_imm calls broken has a translation that probe_armv8 calls broken. */
 probe_answer probe_translate(const uint8_t *file, size_t length, uint8_t *out, size_t room);
 
-/* The lines that the program judge prints of the file: of a source file a line for it and one for its translation, of a chip file one,
- * of a refused file the line `refused` and the number. Each ends in a line feed; there is no 0 behind them. Refusal 12 only. */
+/* The lines that the program judge prints of the file: of a source file a line `source` for it by IMM, a line `chip` for its translation
+ * by ARMv8 and a line `tso` for it by x86-TSO, of a chip file a line `chip`, of a refused file the line `refused` and the number. Each ends
+ * in a line feed; there is no 0 behind them. Refusal 12 only. */
 probe_answer probe_judge(const uint8_t *file, size_t length, uint8_t *out, size_t room);
 
 /* The printed page of a file of either kind, with a star at each event of the ring. Refusals 1 to 10 and 13, then 12; never 11.
@@ -92,8 +95,8 @@ probe_answer probe_judge(const uint8_t *file, size_t length, uint8_t *out, size_
  * and spaces in the others.
  * The ring is `count` bytes, any number of any bytes: an event has a star where its number is among them. Bytes that are no number of a
  * recorded event, as 0 and the initial writes' 56 and up, do nothing, and neither do repeats nor the order.
- * To star what broke a rule, pass the events that probe_imm (source) or probe_armv8 (chip) wrote where PROBE_RULE of its answer is not 0.
- * Where it is 0, pass none, with count 0: an allowed verdict shows all events. */
+ * To star what broke a rule, pass the events that probe_imm or probe_tso (source) or probe_armv8 (chip) wrote where PROBE_RULE of its
+ * answer is not 0. Where it is 0, pass none, with count 0: an allowed verdict shows all events. */
 probe_answer probe_page(const uint8_t *file, size_t length, const uint8_t *ring, size_t count, uint8_t *out, size_t room);
 
 #ifdef __cplusplus

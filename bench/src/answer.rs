@@ -42,16 +42,18 @@ pub fn judge(file: &[u8]) -> String {
     String::from_utf8_lossy(&bytes).replace('\n', ";")
 }
 
-/// The same lines, made from the two verdict calls and the translation.
+/// The same lines, made from the three verdict calls and the translation.
 pub fn verdicts(file: &[u8]) -> String {
-    let (source, shown) = bytes_of(plain::imm, file);
-    match refusal(source) {
-        0 => {
+    let (imm, imm_shown) = bytes_of(plain::imm, file);
+    let (tso, tso_shown) = bytes_of(plain::tso, file);
+    match (refusal(imm), refusal(tso)) {
+        (0, 0) => {
             let (_, chip) = bytes_of(plain::translate, file);
-            line("source", source, &shown) + &chip_line(&chip)
+            line("source", imm, &imm_shown) + &chip_line(&chip) + &line("tso", tso, &tso_shown)
         }
-        11 => chip_line(file),
-        cause => format!("refused {cause};"),
+        (11, 11) => chip_line(file),
+        (cause, same) if cause == same => format!("refused {cause};"),
+        (cause, other) => format!("refused {cause} and {other};"),
     }
 }
 

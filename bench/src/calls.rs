@@ -1,4 +1,4 @@
-//! The six calls, each in the library and in the plain implementation, and the parts of their answers.
+//! The seven calls, each in the library and in the plain implementation, and the parts of their answers.
 
 use crate::{library, plain};
 
@@ -14,6 +14,7 @@ pub struct Call {
 pub const LOAD: Call = Call { name: "load", library: |file, _| library::load(file), plain: |file, _| plain::load(file) };
 pub const IMM: Call = Call { name: "imm", library: library::imm, plain: plain::imm };
 pub const ARMV8: Call = Call { name: "armv8", library: library::armv8, plain: plain::armv8 };
+pub const TSO: Call = Call { name: "tso", library: library::tso, plain: plain::tso };
 pub const TRANSLATE: Call = Call { name: "translate", library: library::translate, plain: plain::translate };
 pub const JUDGE: Call = Call { name: "judge", library: library::judge, plain: plain::judge };
 
@@ -31,7 +32,7 @@ pub const PAGE_OF_BYTES: Call = Call {
     plain: |file, out| plain::page(file, file, out),
 };
 
-pub const CALLS: [Call; 6] = [LOAD, IMM, ARMV8, TRANSLATE, JUDGE, PAGE];
+pub const CALLS: [Call; 7] = [LOAD, IMM, ARMV8, TSO, TRANSLATE, JUDGE, PAGE];
 
 /// The first events of the threads, as they stand in a file; none of a file without them.
 fn heads(file: &[u8]) -> &[u8] {

@@ -4,6 +4,7 @@ extern "C" {
     fn probe_load(file: *const u8, length: usize) -> u64;
     fn probe_imm(file: *const u8, length: usize, out: *mut u8, room: usize) -> u64;
     fn probe_armv8(file: *const u8, length: usize, out: *mut u8, room: usize) -> u64;
+    fn probe_tso(file: *const u8, length: usize, out: *mut u8, room: usize) -> u64;
     fn probe_translate(file: *const u8, length: usize, out: *mut u8, room: usize) -> u64;
     fn probe_judge(file: *const u8, length: usize, out: *mut u8, room: usize) -> u64;
     fn probe_page(file: *const u8, length: usize, ring: *const u8, count: usize, out: *mut u8, room: usize) -> u64;
@@ -27,6 +28,10 @@ pub fn imm(file: &[u8], out: &mut [u8]) -> u64 {
 
 pub fn armv8(file: &[u8], out: &mut [u8]) -> u64 {
     with_output(probe_armv8, file, out)
+}
+
+pub fn tso(file: &[u8], out: &mut [u8]) -> u64 {
+    with_output(probe_tso, file, out)
 }
 
 pub fn translate(file: &[u8], out: &mut [u8]) -> u64 {

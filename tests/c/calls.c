@@ -110,6 +110,7 @@ static void refused_by_all(const char *name, const uint8_t *file, size_t length,
     loads(name, file, length, cause);
     refused(probe_imm, name, file, length, cause);
     refused(probe_armv8, name, file, length, cause);
+    refused(probe_tso, name, file, length, cause);
     refused(probe_translate, name, file, length, cause);
     page_with(name, file, length, EVENTS(1, 2), 2, coded(cause, 0, 0), NULL);
     prints(name, file, length, line);
@@ -208,53 +209,62 @@ static void stars(const char *name, const uint8_t *file, size_t length)
     expect(answer == coded(0, 0, size) && memcmp(got, wanted, size) == 0, name, "other stars for the file as a ring");
 }
 
-/* A chip file with its ARMv8 verdict and its line. */
-struct chip {
-    const char *name;
-    const uint8_t *file;
-    size_t length;
+/* A verdict: the broken rule or 0, the events shown, and its line. */
+struct verdict {
     unsigned rule;
     size_t shown;
     const uint8_t *events;
     const char *line;
 };
 
+static void judged(call function, const char *name, const uint8_t *file, size_t length, const struct verdict *v)
+{
+    at_each_room(function, name, file, length, coded(0, v->rule, v->shown), v->events);
+}
+
+/* A chip file with its ARMv8 verdict. */
+struct chip {
+    const char *name;
+    const uint8_t *file;
+    size_t length;
+    struct verdict armv8;
+};
+
 static void chip(const struct chip *c)
 {
     loads(c->name, c->file, c->length, 0);
     refused(probe_imm, c->name, c->file, c->length, PROBE_OTHER_KIND);
+    refused(probe_tso, c->name, c->file, c->length, PROBE_OTHER_KIND);
     refused(probe_translate, c->name, c->file, c->length, PROBE_OTHER_KIND);
-    at_each_room(probe_armv8, c->name, c->file, c->length, coded(0, c->rule, c->shown), c->events);
-    prints(c->name, c->file, c->length, c->line);
+    judged(probe_armv8, c->name, c->file, c->length, &c->armv8);
+    prints(c->name, c->file, c->length, c->armv8.line);
     stars(c->name, c->file, c->length);
 }
 
-/* A source file with its IMM verdict, its translation, the ARMv8 verdict on that, and its lines. */
+/* A source file with its IMM verdict, its translation, the ARMv8 verdict on that, and its own x86-TSO verdict. */
 struct source {
     const char *name;
     const uint8_t *file;
     size_t length;
-    unsigned rule;
-    size_t shown;
-    const uint8_t *events;
+    struct verdict imm;
     const uint8_t *chip;
     size_t chip_length;
-    unsigned chip_rule;
-    size_t chip_shown;
-    const uint8_t *chip_events;
-    const char *lines;
+    struct verdict armv8;
+    struct verdict tso;
 };
 
 static void source(const struct source *s)
 {
-    const char *line = strchr(s->lines, '\n') + 1;
+    char lines[PROBE_MOST_LINES + 1];
+    snprintf(lines, sizeof lines, "%s%s%s", s->imm.line, s->armv8.line, s->tso.line);
     loads(s->name, s->file, s->length, 0);
-    at_each_room(probe_imm, s->name, s->file, s->length, coded(0, s->rule, s->shown), s->events);
+    judged(probe_imm, s->name, s->file, s->length, &s->imm);
+    judged(probe_tso, s->name, s->file, s->length, &s->tso);
     refused(probe_armv8, s->name, s->file, s->length, PROBE_OTHER_KIND);
     at_each_room(probe_translate, s->name, s->file, s->length, coded(0, 0, s->chip_length), s->chip);
-    prints(s->name, s->file, s->length, s->lines);
+    prints(s->name, s->file, s->length, lines);
     stars(s->name, s->file, s->length);
-    chip(&(struct chip){s->name, s->chip, s->chip_length, s->chip_rule, s->chip_shown, s->chip_events, line});
+    chip(&(struct chip){s->name, s->chip, s->chip_length, s->armv8});
 }
 
 #include "recordings.h"

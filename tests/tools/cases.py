@@ -198,10 +198,16 @@ BYTES = [  # a file, the reason why it is refused
 
 # The program.
 
+BREAKS = {  # how a drawing names a broken rule, of any model or of one
+    "1": "a read without rf", "2": "two writes of a location that co does not order", "4": "an rmw pair that is also fre then coe",
+    "source 3": "a ring of po and sw, one step may be of eco", "source 5": "a ring of ar",
+    "chip 3": "a ring of po-loc, rf, co and fr", "chip 5": "a ring of ob", "tso 3": "a ring of po-loc, rf, co and fr", "tso 5": "a ring of tso",
+}
 RING_OF_ONE = ("source locations x\nthread 1\n1: fence sc\n", "source broken 3 1")
 MISUSES = [  # words, part of what is said behind the usage
     ((), "the following arguments are required"), (("text",), "required: file"), (("list", "x.rec"), "(choose from 'text', 'bytes', 'check', 'draw')"),
     (("text", "x.rec", "y.rec"), "text takes one file"), (("bytes", "x", "y"), "bytes takes one file"), (("check", "x", "y"), "check takes one file"),
     (("check", "x", "-o", "y"), "check writes to standard output and has no -o"), (("text", "x", "-o", ""), "-o has an empty name"),
     (("draw", "x.rec", "-o", "x.png"), "-o x.png: a drawing's name ends in .dot or .svg"), (("text", "x", "-x"), "unrecognized arguments: -x"),
+    *(((word, "x.rec", "--tso"), "--tso draws a line of VERDICT, and none is given") for word in ("draw", "text")),
 ]

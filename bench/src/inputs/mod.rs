@@ -6,7 +6,7 @@ mod draft;
 mod litmus;
 mod recordings;
 
-use crate::calls::{refusal, rule, written, Call, Function, ARMV8, CALLS, IMM, JUDGE, LOAD, PAGE, ROOM, TRANSLATE};
+use crate::calls::{refusal, rule, written, Call, Function, ARMV8, CALLS, IMM, JUDGE, LOAD, PAGE, ROOM, TRANSLATE, TSO};
 use crate::plain;
 use crate::plain::recording::{CHIP, SOURCE};
 use crate::random::Random;
@@ -49,6 +49,7 @@ fn add(rows: &mut Vec<Row>, group: &str, call: Call, files: Vec<File>) {
 fn source_rows(rows: &mut Vec<Row>, group: &str, files: &[File]) {
     add(rows, group, LOAD, files.to_vec());
     add(rows, group, IMM, files.to_vec());
+    add(rows, group, TSO, files.to_vec());
     add(rows, group, TRANSLATE, files.to_vec());
     add(rows, group, ARMV8, files.iter().map(|file| translation(file)).collect());
     add(rows, group, JUDGE, files.to_vec());
@@ -61,7 +62,7 @@ fn translation(file: &[u8]) -> File {
     out[..written(answer)].to_vec()
 }
 
-/// The full size of one kind: all files together, then by the verdict of the kind's own model.
+/// The full size of one kind: all files together, then by the verdict of IMM on a source, of ARMv8 on a chip.
 fn sized_rows(rows: &mut Vec<Row>, kind: u8) {
     let (name, verdict) = if kind == SOURCE { ("source", IMM) } else { ("chip", ARMV8) };
     let by_outcome = recordings_by_outcome(kind, verdict.plain);

@@ -3,27 +3,16 @@
 
 use super::execution::Execution;
 use super::relation::Relation;
-use super::verdict::{ring, rule_4, rule_5, rules_1_and_2, Verdict};
+use super::verdict::{per_location, Verdict};
 
 pub fn judge(x: &Execution) -> Verdict {
-    if let Some(verdict) = rules_1_and_2(x) {
-        return verdict;
-    }
-    let per_location = x.po_loc.or(&x.rf).or(&x.fr).or(&x.co);
-    if !per_location.closure().is_irreflexive() {
-        return ring(3, x.events, &per_location, &per_location);
-    }
-    let fre = x.fr.minus(&x.po);
-    if let Some(verdict) = rule_4(x, &fre) {
-        return verdict;
-    }
-    rule_5(x, &ordered_before(x, &fre))
+    per_location(x, ordered_before)
 }
 
 /// ob = obs ∪ dob ∪ aob ∪ bob, where obs = rfe ∪ fre ∪ coe
-fn ordered_before(x: &Execution, fre: &Relation) -> Relation {
+fn ordered_before(x: &Execution) -> Relation {
     let coi = x.co.and(&x.po);
-    x.rfe.or(fre).or(&x.coe).or(&dependencies(x, &coi)).or(&atomics(x)).or(&barriers(x, &coi))
+    x.rfe.or(&x.fre).or(&x.coe).or(&dependencies(x, &coi)).or(&atomics(x)).or(&barriers(x, &coi))
 }
 
 /// dob = (addr ∪ data) ; rfi? ∪ (ctrl ∪ data) ; [W] ; coi? ∪ addr ; po ; [W] ∪ (ctrl ∪ addr ; po) ; [Fisb] ; po ; [R]

@@ -25,6 +25,7 @@ pub struct Execution {
     pub co: Relation,
     pub coe: Relation,
     pub fr: Relation,
+    pub fre: Relation,
     pub rmw: Relation,
     pub data: Relation,
     pub addr: Relation,
@@ -37,6 +38,7 @@ impl Execution {
         let Loaded { recording, po, co } = loaded;
         let linked = |link_type: usize| recording.sources[link_type].inverse();
         let rf = linked(RF);
+        let fr = recording.sources[RF].then(co);
         let mut x = Execution {
             events: recording.recorded() | recording.initial(),
             reads: 0,
@@ -55,7 +57,8 @@ impl Execution {
             rfi: rf.and(po),
             co: *co,
             coe: co.minus(po),
-            fr: recording.sources[RF].then(co),
+            fr,
+            fre: fr.minus(po),
             rmw: linked(RMW),
             data: linked(DATA),
             addr: linked(ADDR),

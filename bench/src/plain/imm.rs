@@ -16,7 +16,7 @@ pub fn judge(x: &Execution) -> Verdict {
         let closing = eco.minus(&Relation::identity(x.events)).or(&steps);
         return ring(3, x.events, &steps, &closing);
     }
-    if let Some(verdict) = rule_4(x, &x.fr.minus(&x.po)) {
+    if let Some(verdict) = rule_4(x) {
         return verdict;
     }
     rule_5(x, &acyclicity(x, &hb, &eco))

@@ -2,15 +2,18 @@
 
 use super::verdict::Verdict;
 
-/// Room for two lines, each of a model, a verdict and at most 64 events.
+/// Bytes that are enough for a line: a model, a verdict and at most 64 events.
+const LINE: usize = 320;
+
+/// Room for three lines.
 pub struct Text {
-    bytes: [u8; 640],
+    bytes: [u8; 3 * LINE],
     length: usize,
 }
 
 impl Text {
     pub fn new() -> Text {
-        Text { bytes: [0; 640], length: 0 }
+        Text { bytes: [0; 3 * LINE], length: 0 }
     }
 
     pub fn bytes(&self) -> &[u8] {

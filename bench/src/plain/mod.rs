@@ -10,6 +10,7 @@ mod page;
 pub mod recording;
 mod relation;
 mod translation;
+mod tso;
 mod verdict;
 
 use execution::Execution;
@@ -41,6 +42,10 @@ pub fn armv8(file: &[u8], out: &mut [u8]) -> u64 {
     verdict_on(CHIP, armv8::judge, file, out)
 }
 
+pub fn tso(file: &[u8], out: &mut [u8]) -> u64 {
+    verdict_on(SOURCE, tso::judge, file, out)
+}
+
 pub fn translate(file: &[u8], out: &mut [u8]) -> u64 {
     let loaded = match load_kind(SOURCE, file) {
         Ok(loaded) => loaded,
@@ -58,8 +63,10 @@ pub fn judge(file: &[u8], out: &mut [u8]) -> u64 {
             text.verdict(b"chip", &armv8::judge(&Execution::of(&loaded)));
         }
         Ok(loaded) => {
-            text.verdict(b"source", &imm::judge(&Execution::of(&loaded)));
+            let source = Execution::of(&loaded);
+            text.verdict(b"source", &imm::judge(&source));
             text.verdict(b"chip", &armv8::judge(&Execution::of(&translated(&loaded))));
+            text.verdict(b"tso", &tso::judge(&source));
         }
     }
     written(0, text.bytes(), out)

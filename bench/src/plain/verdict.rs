@@ -1,4 +1,4 @@
-//! The rules that both models share, and what is shown of a verdict.
+//! The rules that the models share, and what is shown of a verdict.
 //! Assumes an execution of a recording that loads.
 
 use super::execution::Execution;
@@ -51,10 +51,22 @@ pub fn rules_1_and_2(x: &Execution) -> Option<Verdict> {
     Some(Verdict::showing(2, &[a, b]))
 }
 
+/// The verdict of ARMv8 and x86-TSO, whose rule 3 is SC-per-location; they differ in the order of rule 5.
+pub fn per_location(x: &Execution, order: fn(&Execution) -> Relation) -> Verdict {
+    let earlier = rules_1_and_2(x).or_else(|| sc_per_location(x)).or_else(|| rule_4(x));
+    earlier.unwrap_or_else(|| rule_5(x, &order(x)))
+}
+
+/// Rule 3 as SC-per-location: po-loc, rf, fr and co together have no ring.
+fn sc_per_location(x: &Execution) -> Option<Verdict> {
+    let steps = x.po_loc.or(&x.rf).or(&x.fr).or(&x.co);
+    (!steps.closure().is_irreflexive()).then(|| ring(3, x.events, &steps, &steps))
+}
+
 /// Rule 4: no rmw pair is also fre then coe.
-pub fn rule_4(x: &Execution, fre: &Relation) -> Option<Verdict> {
+pub fn rule_4(x: &Execution) -> Option<Verdict> {
     members(x.reads).find_map(|read| {
-        let split = x.rmw[read] & x.coe.image(fre[read]);
+        let split = x.rmw[read] & x.coe.image(x.fre[read]);
         (split != 0).then(|| Verdict::showing(4, &[read, first(split)]))
     })
 }
