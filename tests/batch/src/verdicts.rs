@@ -6,6 +6,7 @@ use crate::probe_translate;
 extern "C" {
     fn probe_imm(file: *const u8, len: usize, out: *mut u8, room: usize) -> u64;
     fn probe_armv8(file: *const u8, len: usize, out: *mut u8, room: usize) -> u64;
+    fn probe_tso(file: *const u8, len: usize, out: *mut u8, room: usize) -> u64;
 }
 
 fn line(model: &str, verdict: &Answer) -> String {
@@ -17,24 +18,24 @@ fn line(model: &str, verdict: &Answer) -> String {
     format!("{model} {word}{events};")
 }
 
-/// The lines of a source file whose IMM verdict is given.
-fn source_lines(file: &[u8], imm: &Answer) -> String {
+/// The lines of a source file whose verdicts under IMM and x86-TSO are given.
+fn source_lines(file: &[u8], imm: &Answer, tso: &Answer) -> String {
     let chip = at_each_room(Call::OfFile(probe_translate, file)).bytes;
     let armv8 = at_each_room(Call::OfFile(probe_armv8, &chip));
     match armv8.refusal {
-        0 => line("source", imm) + &line("chip", &armv8),
+        0 => line("source", imm) + &line("chip", &armv8) + &line("tso", tso),
         cause => format!("translation refused {cause}"),
     }
 }
 
-/// A file that loads is refused with 11 by the verdict of the other kind; one that does not load has one number in both.
+/// A file that loads is refused with 11 by the verdicts of the other kind; one that does not load has one number in all.
 pub fn lines(file: &[u8]) -> String {
-    let [imm, armv8] = [probe_imm, probe_armv8].map(|verdict| at_each_room(Call::OfFile(verdict, file)));
-    match (imm.refusal, armv8.refusal) {
-        (0, 11) => source_lines(file, &imm),
-        (11, 0) => line("chip", &armv8),
-        (cause @ (1..=10 | 13), same) if cause == same => format!("refused {cause};"),
-        (cause, other) => format!("refused {cause} and {other}"),
+    let [imm, armv8, tso] = [probe_imm, probe_armv8, probe_tso].map(|verdict| at_each_room(Call::OfFile(verdict, file)));
+    match [imm.refusal, armv8.refusal, tso.refusal] {
+        [0, 11, 0] => source_lines(file, &imm, &tso),
+        [11, 0, 11] => line("chip", &armv8),
+        [cause @ (1..=10 | 13), other, third] if [cause; 2] == [other, third] => format!("refused {cause};"),
+        causes => format!("refused {causes:?}"),
     }
 }
 

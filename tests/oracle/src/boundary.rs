@@ -6,6 +6,7 @@ use crate::boundary_links;
 use crate::boundary_rings;
 use crate::boundary_several;
 use crate::boundary_threads;
+use crate::boundary_tso;
 use crate::handmade::*;
 
 pub fn cases() -> Vec<Case> {
@@ -22,6 +23,7 @@ pub fn cases() -> Vec<Case> {
     boundary_links::add(&mut cases);
     boundary_several::add(&mut cases);
     boundary_rings::add(&mut cases);
+    boundary_tso::add(&mut cases);
     cases.0
 }
 

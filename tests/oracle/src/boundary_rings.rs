@@ -1,32 +1,23 @@
 //! Recordings whose shortest rings are known by hand (02, slip 5): rings of one event, the longest that a shortest ring can be,
 //! and short rings beside long ones. They are boundary files that load.
 
-use crate::handmade::*;
-
-const READ: u8 = 1;
-const WRITE: u8 = 2;
-const FENCE: u8 = 3;
-const RELAXED: u8 = 0;
-const ACQUIRE: u8 = 1;
-const RELEASE: u8 = 2;
-const RF: u8 = 1;
-const CO: u8 = 2;
-const DATA: u8 = 4;
-const ADDR: u8 = 5;
+use crate::handmade::{thread_limit, Cases};
+use crate::sketch::*;
 
 /// A file with what is known of its rings.
 pub struct Ringed {
     pub name: String,
     pub file: Vec<u8>,
-    /// For each verdict on it the broken rule and the number of events of a shortest ring.
+    /// For each verdict on it the broken rule and the number of events of a shortest ring; of an allowed one 0 and all events.
     pub rings: Vec<(u8, usize)>,
-    /// A longer ring of the first verdict, where one is known.
-    pub longer: Vec<u8>,
+    /// The place of a verdict and a longer ring of it, where one is known.
+    pub longer: Option<(usize, Vec<u8>)>,
 }
 
 pub fn ringed() -> Vec<Ringed> {
     let mut all = one_event();
     all.extend(longest());
+    all.extend(buffered());
     all.extend(decoys());
     all
 }
@@ -37,78 +28,24 @@ pub fn add(cases: &mut Cases) {
     }
 }
 
-/// A recording put together event by event. Threads are counted from 0.
-struct Sketch {
-    kind: u8,
-    locations: u8,
-    /// Class, mode, location and value.
-    events: Vec<[u8; 4]>,
-    threads: [Vec<u8>; 4],
-    links: Vec<LinkEnds>,
-}
-
 impl Sketch {
-    fn new(kind: u8) -> Sketch {
-        Sketch { kind, locations: 0, events: Vec::new(), threads: Default::default(), links: Vec::new() }
-    }
-
-    fn location(&mut self) -> u8 {
-        self.locations += 1;
-        self.locations - 1
-    }
-
-    /// Puts an event at the end of a thread. Its number is the next one.
-    fn event(&mut self, thread: usize, class: u8, mode: u8, location: u8, value: u8) -> u8 {
-        self.events.push([class, mode, location, value]);
-        let number = self.events.len() as u8;
-        self.threads[thread].push(number);
-        number
-    }
-
-    fn link(&mut self, link_type: u8, source: u8, target: u8) {
-        self.links.push((link_type, source, target));
-    }
-
-    /// A read of the initial write.
-    fn stale(&mut self, thread: usize, location: u8) -> u8 {
-        let read = self.event(thread, READ, RELAXED, location, 0);
-        self.link(RF, 56 + location, read);
-        read
-    }
-
-    fn file(&self) -> Vec<u8> {
-        let (heads, nexts) = chained(&self.threads);
-        let bytes = |(&[class, mode, location, value], &next): (&[u8; 4], &u8)| [next, class, mode, 0, location, value, 0];
-        let events: Vec<EventBytes> = self.events.iter().zip(&nexts).map(bytes).collect();
-        file(self.kind, self.locations, heads, &events, &self.links)
-    }
-
-    /// The same with the numbers of the events the other way round.
-    fn backward(mut self) -> Sketch {
-        let last = self.events.len() as u8 + 1;
-        let turned = |n: u8| if n < 56 { last - n } else { n };
-        self.events.reverse();
-        self.threads.iter_mut().flatten().for_each(|n| *n = turned(*n));
-        self.links.iter_mut().for_each(|(_, source, target)| (*source, *target) = (turned(*source), turned(*target)));
-        self
-    }
-
     fn ringed(&self, name: impl Into<String>, rings: &[(u8, usize)]) -> Ringed {
-        Ringed { name: name.into(), file: self.file(), rings: rings.to_vec(), longer: Vec::new() }
+        Ringed { name: name.into(), file: self.file(), rings: rings.to_vec(), longer: None }
     }
 
-    /// The sketch and the same backward, where its first events, up to `last`, are a longer ring.
-    fn beside_longer(self, name: &str, rings: &[(u8, usize)], last: u8) -> [Ringed; 2] {
+    /// The sketch and the same backward, where its first events, up to `last`, are a longer ring of the verdict at place `of`.
+    fn beside_longer(self, name: &str, rings: &[(u8, usize)], of: usize, last: u8) -> [Ringed; 2] {
         let all = self.events.len() as u8;
-        let forward = Ringed { longer: (1..=last).collect(), ..self.ringed(format!("{name}, the longer ring first"), rings) };
-        let longer = [all + 1 - last].into_iter().chain((all + 2 - last..=all).rev()).collect();
+        let longer = Some((of, (1..=last).collect()));
+        let forward = Ringed { longer, ..self.ringed(format!("{name}, the longer ring first"), rings) };
+        let longer = Some((of, [all + 1 - last].into_iter().chain((all + 2 - last..=all).rev()).collect()));
         let backward = Ringed { longer, ..self.backward().ringed(format!("{name}, the longer ring last"), rings) };
         [forward, backward]
     }
 }
 
 /// R x 1, a fence, W x 1 at the end of a thread, and rf from the write to the read. A fence of mode 3 or 4 synchronizes with itself:
-/// a ring of one event under IMM's rule 3. Under ARMv8's the read and the write are a ring.
+/// a ring of one event under IMM's rule 3. Under ARMv8's and x86-TSO's the read and the write are a ring.
 fn own_fence(sketch: &mut Sketch, thread: usize, mode: u8) {
     let x = sketch.location();
     let read = sketch.event(thread, READ, RELAXED, x, 1);
@@ -119,7 +56,7 @@ fn own_fence(sketch: &mut Sketch, thread: usize, mode: u8) {
 
 /// Rings of one event, the fence the second of three, or with the smallest or the largest number of 32; and beside a ring of eight.
 fn one_event() -> Vec<Ringed> {
-    let rings = [(3, 1), (3, 2)];
+    let rings = [(3, 1), (3, 2), (3, 2)];
     let mut all = Vec::new();
     for mode in [3, 4] {
         for thread in 0..4 {
@@ -137,7 +74,7 @@ fn one_event() -> Vec<Ringed> {
         let mut sketch = Sketch::new(1);
         synchronized(&mut sketch, 4);
         own_fence(&mut sketch, 0, mode);
-        all.extend(sketch.beside_longer(&format!("fence {mode} that synchronizes with itself, beside eight"), &rings, 8));
+        all.extend(sketch.beside_longer(&format!("fence {mode} that synchronizes with itself, beside eight"), &rings, 0, 8));
     }
     all
 }
@@ -153,7 +90,7 @@ fn numbered_first(sketch: &Sketch, n: u8) -> Sketch {
 }
 
 /// In each of so many threads R acquire, W release; each read reads from the write of the thread before.
-/// sw and po in turns, twice as many events as threads; on the chip rfe and bob.
+/// sw and po in turns, twice as many events as threads; on the chip rfe and bob, under x86-TSO rfe and R-W.
 fn synchronized(sketch: &mut Sketch, threads: usize) {
     let reads: Vec<u8> = (0..threads)
         .map(|thread| {
@@ -171,7 +108,7 @@ fn synchronized(sketch: &mut Sketch, threads: usize) {
 }
 
 /// W x 1, W release || R acquire, W release || .. || R acquire, R x 0. sw and po in turns, and fr from the last event to the first:
-/// a ring that only eco closes, twice as many events as threads.
+/// a ring that only eco closes, twice as many events as threads; under x86-TSO W-W, rfe and R-W in turns, R-R, fr.
 fn passed_on(sketch: &mut Sketch, threads: usize) {
     let x = sketch.location();
     let mut write = sketch.event(0, WRITE, RELAXED, x, 1);
@@ -196,14 +133,17 @@ fn passed_on(sketch: &mut Sketch, threads: usize) {
 /// On the chip data then coi leads from a read of round 1 to the write of round 0 in its thread: a ring of eight, by the pairs between.
 /// None is shorter: a step of ob from a write leads to the next thread, one from a read to its own or to the one before, and to go round
 /// takes four writes. With fifteen pairs the step from the last to the first passes a thread by; a ring with it has all of rounds 0 and 1.
+/// Under x86-TSO the ring of eight is one too. A shorter one goes round by rfe forth and fr back once each, and so is message passing:
+/// write 15 and then 7, in the last thread, read 8 of the first, which reads from 7, and then 12, which reads what 15 overwrites. With
+/// fifteen pairs there is no pair 15; of two neighbouring threads, and from round to round, reads have the order of what they read.
 fn circle(sketch: &mut Sketch, pairs: u8) {
     let (first, base) = (sketch.locations, sketch.events.len() as u8);
     let location = |k: u8| first + k % 4 + 4 * (k / 8);
     let before = |k: u8| (k + pairs - 1) % pairs;
     sketch.locations += if pairs > 8 { 8 } else { 4 };
     for k in 0..pairs {
-        sketch.events.push([READ, RELAXED, location(before(k)), before(k) + 1]);
-        sketch.events.push([WRITE, RELAXED, location(k), k + 1]);
+        sketch.events.push([READ, RELAXED, 0, location(before(k)), before(k) + 1]);
+        sketch.events.push([WRITE, RELAXED, 0, location(k), k + 1]);
         sketch.link(RF, base + 2 * before(k) + 2, base + 2 * k + 1);
         sketch.link(DATA, base + 2 * k + 1, base + 2 * k + 2);
     }
@@ -216,6 +156,46 @@ fn circle(sketch: &mut Sketch, pairs: u8) {
         if k.max(later) < pairs {
             sketch.link(CO, base + 2 * k + 2, base + 2 * later + 2);
         }
+    }
+}
+
+/// In each of so many threads, three or four, W a, W b, R b', R a': b' is the b of the thread before, read from its write; a' is the a of
+/// the thread before that, read from its initial write. All events are one ring of tso, by their numbers: W-W, rfe, R-R, fr. No other step
+/// leads from any of them, as none leads from a write to a later read. Under IMM and ARMv8 no po is a step.
+/// A shortest ring of tso has four events of a thread at most. It takes po once from an event at most, and once into one, and po is a step
+/// but from a plain write to a plain read. So they are two; or a plain write, then at most one that is no plain read and two that are.
+fn buffers(sketch: &mut Sketch, threads: u8) {
+    let (a, b) = (sketch.locations, sketch.locations + threads);
+    sketch.locations += 2 * threads;
+    let mut halves = vec![[0; 2]; threads as usize];
+    let mut thread = 0;
+    for _ in 0..threads {
+        let (next, before) = ((thread + 1) % threads, (thread + threads - 1) % threads);
+        let first = sketch.events.len() as u8 + 1;
+        sketch.events.push([WRITE, RELAXED, 0, a + thread, 1]);
+        sketch.events.push([WRITE, RELAXED, 0, b + thread, 1]);
+        sketch.events.push([READ, RELAXED, 0, b + thread, 1]);
+        sketch.events.push([READ, RELAXED, 0, a + before, 0]);
+        sketch.link(RF, first + 1, first + 2);
+        sketch.link(RF, 56 + a + before, first + 3);
+        halves[thread as usize][0] = first;
+        halves[next as usize][1] = first + 2;
+        thread = before;
+    }
+    for (thread, [writes, reads]) in halves.into_iter().enumerate() {
+        sketch.threads[thread].extend([writes, writes + 1, reads, reads + 1]);
+    }
+}
+
+/// In each of so many threads W x, an SC fence, R x' of the next thread's x, from the initial write: into and out of the fence and fr, a
+/// ring of tso. Under IMM psc leads from fence to fence, on the chip bob from the write to the read.
+fn fenced_buffers(sketch: &mut Sketch, threads: usize) {
+    let first = sketch.locations;
+    sketch.locations += threads as u8;
+    for thread in 0..threads {
+        sketch.event(thread, WRITE, RELAXED, first + thread as u8, 1);
+        sketch.event(thread, FENCE, 4, 0, 0);
+        sketch.stale(thread, first + ((thread + 1) % threads) as u8);
     }
 }
 
@@ -252,7 +232,7 @@ fn all_48() -> Sketch {
 }
 
 /// Reads of x that see the write of another thread, then one that does not: W x 1 || R x 1, .., R x 0.
-/// Under ARMv8's rule 3 a ring of three, the write, one of the reads and the last; longer ones have more of the reads.
+/// Under ARMv8's and x86-TSO's rule 3 a ring of three, the write, one of the reads and the last; longer ones have more of the reads.
 /// Under IMM's eco leads from the last read to each other.
 fn newer_before_older(sketch: &mut Sketch, threads: [usize; 2], newer: u8) {
     let x = sketch.location();
@@ -268,14 +248,16 @@ fn newer_before_older(sketch: &mut Sketch, threads: [usize; 2], newer: u8) {
 /// ar and ob: all events of a recording. Nothing leads to an initial write.
 /// IMM's rule 3: two events of each thread. A third between them can be left out, as po joins the other two; and of two visits to a thread
 /// one event of the one is po-before one of the other, which leaves out what lies between.
-/// ARMv8's rule 3: three. Of the events of a location some po goes against rf, co and fr. Of these, one or two lead back.
+/// ARMv8's and x86-TSO's rule 3: three. Of the events of a location some po goes against rf, co and fr. Of these, one or two lead back.
+/// tso: sixteen, four of each thread (`buffers`).
 fn longest() -> Vec<Ringed> {
     let mut all = Vec::new();
-    for pairs in [15, 16] {
+    for (pairs, tso) in [(15, 8), (16, 4)] {
+        let rings = [(5, 2 * pairs as usize), (5, 8), (5, tso)];
         let mut sketch = Sketch::new(1);
         circle(&mut sketch, pairs);
-        all.push(sketch.ringed(format!("{pairs} pairs in a circle"), &[(5, 2 * pairs as usize), (5, 8)]));
-        all.push(sketch.backward().ringed(format!("{pairs} pairs in a circle, backward"), &[(5, 2 * pairs as usize), (5, 8)]));
+        all.push(sketch.ringed(format!("{pairs} pairs in a circle"), &rings));
+        all.push(sketch.backward().ringed(format!("{pairs} pairs in a circle, backward"), &rings));
     }
     all.push(all_48().ringed("48 events in a ring", &[(5, 48)]));
     all.push(all_48().backward().ringed("48 events in a ring, backward", &[(5, 48)]));
@@ -283,11 +265,12 @@ fn longest() -> Vec<Ringed> {
         for threads in 2..=4 {
             let mut sketch = Sketch::new(1);
             shape(&mut sketch, threads);
-            all.push(sketch.ringed(format!("{threads} threads joined by {name}"), &[(3, 2 * threads), (5, 2 * threads)]));
+            let rings = [(3, 2 * threads), (5, 2 * threads), (5, 2 * threads)];
+            all.push(sketch.ringed(format!("{threads} threads joined by {name}"), &rings));
         }
     }
     for kind in [1, 2] {
-        let rings = if kind == 1 { &[(3, 2), (3, 3)][..] } else { &[(3, 3)] };
+        let rings = if kind == 1 { &[(3, 2), (3, 3), (3, 3)][..] } else { &[(3, 3)] };
         for newer in [1, 2, thread_limit(kind) - 1] {
             let mut sketch = Sketch::new(kind);
             newer_before_older(&mut sketch, [2, 1], newer);
@@ -305,25 +288,54 @@ fn longest() -> Vec<Ringed> {
     all
 }
 
+/// Store buffers, with fences and without.
+fn buffered() -> Vec<Ringed> {
+    let mut all = Vec::new();
+    for threads in [3, 4] {
+        let all_events = 6 * threads as usize;
+        let rings = [(0, all_events), (0, all_events), (5, 4 * threads as usize)];
+        let mut sketch = Sketch::new(1);
+        buffers(&mut sketch, threads);
+        all.push(sketch.ringed(format!("{threads} threads with a store buffer each"), &rings));
+        all.push(sketch.backward().ringed(format!("{threads} threads with a store buffer each, backward"), &rings));
+    }
+    for threads in 2..=4 {
+        let mut sketch = Sketch::new(1);
+        fenced_buffers(&mut sketch, threads);
+        let rings = [(5, threads), (5, 2 * threads), (5, 3 * threads)];
+        all.push(sketch.ringed(format!("{threads} threads with a fenced store buffer each"), &rings));
+    }
+    all
+}
+
 /// Long rings whose events have the smaller numbers, short ones that have the larger; and with the numbers the other way round.
 fn decoys() -> Vec<Ringed> {
     type Shape = fn(&mut Sketch);
-    let shapes: [(&str, u8, Shape, Shape, &[(u8, usize)]); 7] = [
-        ("ar, fourteen and four", 1, |s| circle(s, 7), |s| circle(s, 2), &[(5, 4), (5, 4)]),
-        ("sw, eight and four", 1, |s| synchronized(s, 4), |s| synchronized(s, 2), &[(3, 4), (5, 4)]),
-        ("sw, eight, and four that eco closes", 1, |s| synchronized(s, 4), |s| passed_on(s, 2), &[(3, 4), (5, 4)]),
-        ("eight that eco closes, and sw, four", 1, |s| passed_on(s, 4), |s| synchronized(s, 2), &[(3, 4), (5, 4)]),
-        ("sw, eight, and two that eco closes", 1, |s| synchronized(s, 4), |s| newer_before_older(s, [0, 1], 1), &[(3, 2), (3, 3)]),
-        ("ob, fourteen and four", 2, message_passing_of_14, |s| circle(s, 2), &[(5, 4)]),
-        ("po-loc, three to fourteen and two", 2, |s| newer_before_older(s, [0, 1], 12), read_before_own_write, &[(3, 2)]),
+    let shapes: [(&str, u8, Shape, Shape, &[(u8, usize)], usize); 9] = [
+        ("ar, fourteen and four", 1, |s| circle(s, 7), |s| circle(s, 2), &[(5, 4), (5, 4), (5, 4)], 0),
+        ("sw, eight and four", 1, |s| synchronized(s, 4), |s| synchronized(s, 2), &[(3, 4), (5, 4), (5, 4)], 0),
+        ("sw, eight, and four that eco closes", 1, |s| synchronized(s, 4), |s| passed_on(s, 2), &[(3, 4), (5, 4), (5, 4)], 0),
+        ("eight that eco closes, and sw, four", 1, |s| passed_on(s, 4), |s| synchronized(s, 2), &[(3, 4), (5, 4), (5, 4)], 0),
+        (
+            "sw, eight, and two that eco closes",
+            1,
+            |s| synchronized(s, 4),
+            |s| newer_before_older(s, [0, 1], 1),
+            &[(3, 2), (3, 3), (3, 3)],
+            0,
+        ),
+        ("tso, twelve and four", 1, |s| buffers(s, 3), |s| synchronized(s, 2), &[(3, 4), (5, 4), (5, 4)], 2),
+        ("tso, twelve by fences and four", 1, |s| fenced_buffers(s, 4), |s| passed_on(s, 2), &[(3, 4), (5, 4), (5, 4)], 2),
+        ("ob, fourteen and four", 2, message_passing_of_14, |s| circle(s, 2), &[(5, 4)], 0),
+        ("po-loc, three to fourteen and two", 2, |s| newer_before_older(s, [0, 1], 12), read_before_own_write, &[(3, 2)], 0),
     ];
     let mut all = Vec::new();
-    for (name, kind, long, short, rings) in shapes {
+    for (name, kind, long, short, rings, of) in shapes {
         let mut sketch = Sketch::new(kind);
         long(&mut sketch);
         let last = sketch.events.len() as u8;
         short(&mut sketch);
-        all.extend(sketch.beside_longer(name, rings, last));
+        all.extend(sketch.beside_longer(name, rings, of, last));
     }
     all
 }

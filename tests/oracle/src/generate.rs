@@ -2,6 +2,7 @@
 //! And recordings with a thread over its limit.
 
 use crate::draft::{Draft, DraftEvent};
+use crate::generate_buffers::buffer_shaped;
 use crate::generate_circles::circle_shaped;
 use crate::generate_links::{co_of, dependencies, repeats, rf_of, values};
 use crate::generate_rings::ring_shaped;
@@ -68,6 +69,7 @@ pub fn draft_of_kind(random: &mut Random, kind: u8) -> Draft {
         0..=33 => ring_shaped(random, kind, theme),
         34..=51 => sync_shaped(random, kind, theme),
         52..=55 => circle_shaped(random, kind, theme),
+        56..=63 if kind == SOURCE => buffer_shaped(random, theme),
         _ => {
             let size = size_that_loads(random, kind);
             interleaved(random, kind, theme, size)

@@ -7,11 +7,13 @@ mod boundary_links;
 mod boundary_rings;
 mod boundary_several;
 mod boundary_threads;
+mod boundary_tso;
 mod damage;
 mod demand3;
 mod draft;
 mod execution;
 mod generate;
+mod generate_buffers;
 mod generate_circles;
 mod generate_links;
 mod generate_rings;
@@ -29,6 +31,7 @@ mod reach;
 mod reach_isb;
 mod reach_pages;
 mod reach_rings;
+mod reach_tso;
 mod recording;
 mod relation;
 mod rules;
@@ -36,11 +39,13 @@ mod selftest;
 mod selftest_rings;
 mod shaped;
 mod shown;
+mod sketch;
 mod translation;
 mod worked;
 mod worked_isb;
 mod worked_pages;
 mod worked_rings;
+mod worked_tso;
 
 use handmade::{bytes, outcome};
 use hex::{from_hex, to_hex, with_ring};
@@ -57,7 +62,7 @@ const USAGE: &str = "usage: oracle COMMAND
   rings SEED         files in, lines FILE<TAB>RING out, with random rings
   boundary           lines NAME<TAB>FILE<TAB>EXPECTED
   litmus             lines NAME<TAB>FILE<TAB>ANSWER
-  demand3 SEED N     demand 3 on N random source recordings
+  demand3 SEED N     demand 3, and the claim for x86-TSO, on N random source recordings
   selftest           the oracle's own tests";
 
 /// `check` prints this many differences.

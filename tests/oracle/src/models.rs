@@ -1,4 +1,4 @@
-//! The two models, line by line in the order and with the names of document 003.
+//! The models: IMM and ARMv8 line by line in the order and with the names of document 003, x86-TSO by the words of 02's slip 6.
 
 use crate::execution::Execution;
 use crate::recording::{FENCE, ISB, READ, WRITE};
@@ -14,12 +14,21 @@ fn internal(r: &Relation, x: &Execution) -> Relation {
     intersection(r, &x.po)
 }
 
-/// rmw ∩ (fre ; coe), which ATOMICITY wants empty in both models.
+/// fr ≜ rf⁻¹;co (003, section 3.1).
+fn from_read(x: &Execution) -> Relation {
+    seq(&[&inverse(&x.rf), &x.co])
+}
+
+/// rmw ∩ (fre ; coe), which ATOMICITY wants empty in every model.
 pub fn split_pairs(x: &Execution) -> Relation {
-    let fr = seq(&[&inverse(&x.rf), &x.co]);
-    let fre = external(&fr, x);
+    let fre = external(&from_read(x), x);
     let coe = external(&x.co, x);
     intersection(&x.rmw, &seq(&[&fre, &coe]))
+}
+
+/// po|loc ∪ rf ∪ fr ∪ co, which SC-PER-LOC wants acyclic in ARMv8 (003, Definition C.1) and in x86-TSO.
+pub fn per_location(x: &Execution) -> Relation {
+    union(&[&x.po_loc, &x.rf, &from_read(x), &x.co])
 }
 
 /// IMM, sections 3.1 to 3.4.
@@ -62,7 +71,7 @@ pub fn imm(x: &Execution) -> Imm {
     // 3.1: hb ≜ (po ∪ sw)⁺
     let hb = plus(&union(&[po, &sw]));
     // 3.1: fr ≜ rf⁻¹;co
-    let fr = seq(&[&inverse(rf), co]);
+    let fr = from_read(x);
     // 3.1: eco ≜ rf ∪ co;rf? ∪ fr;rf?
     let eco = union(&[rf, &seq(&[co, &opt(rf)]), &seq(&[&fr, &opt(rf)])]);
 
@@ -99,15 +108,10 @@ impl Imm {
     }
 }
 
-/// ARMv8, section 4.2 with appendix C, 01's "The ARMv8 verdict", and isb of 02's slip 3.
-pub struct Armv8 {
-    /// po|loc ∪ rf ∪ fr ∪ co
-    pub per_location: Relation,
-    pub ob: Relation,
-}
-
-pub fn armv8(x: &Execution) -> Armv8 {
-    let Execution { po, po_loc, rf, co, rmw, data, addr, ctrl, .. } = x;
+/// ARMv8's ob, section 4.2 with appendix C, 01's "The ARMv8 verdict", and isb of 02's slip 3:
+/// Definition C.1, EXTERNAL, wants it acyclic.
+pub fn ob(x: &Execution) -> Relation {
+    let Execution { po, rf, co, rmw, data, addr, ctrl, .. } = x;
     let r = x.on(|e| e.class == READ);
     let w = x.on(|e| e.class == WRITE);
     let r_q = x.on(|e| e.class == READ && e.mode == 1);
@@ -116,10 +120,9 @@ pub fn armv8(x: &Execution) -> Armv8 {
     let f_ld = x.on(|e| e.class == FENCE && e.mode == 5);
     let f_sy = x.on(|e| e.class == FENCE && e.mode == 6);
     let f_isb = x.on(|e| e.class == FENCE && e.mode == ISB);
-    let fr = seq(&[&inverse(rf), co]);
     let rfe = external(rf, x);
     let rfi = internal(rf, x);
-    let fre = external(&fr, x);
+    let fre = external(&from_read(x), x);
     let coe = external(co, x);
     let coi = internal(co, x);
 
@@ -144,19 +147,24 @@ pub fn armv8(x: &Execution) -> Armv8 {
         &seq(&[po, &w_l, &opt(&coi)]),
         &seq(&[&w_l, po, &r_q]),
     ]);
-    let ob = union(&[&obs, &dob, &aob, &bob]);
-    let per_location = union(&[po_loc, rf, &fr, co]);
-    Armv8 { per_location, ob }
+    union(&[&obs, &dob, &aob, &bob])
 }
 
-impl Armv8 {
-    /// Definition C.1, SC-PER-LOC: po|loc ∪ rf ∪ fr ∪ co is acyclic.
-    pub fn coherent(&self) -> bool {
-        acyclic(&self.per_location)
-    }
+/// x86-TSO's tso, which its rule 5 wants acyclic (02, slip 6).
+pub fn tso(x: &Execution) -> Relation {
+    let Execution { po, rf, co, rmw, .. } = x;
+    let r = x.on(|e| e.class == READ);
+    let w = x.on(|e| e.class == WRITE);
+    let f_sc = x.on(|e| e.class == FENCE && e.mode == 4);
+    let pair = x.on(|e| x.numbers.iter().any(|&other| rmw.has(e.number, other) || rmw.has(other, e.number)));
+    let access = union(&[&r, &w]);
 
-    /// Definition C.1, EXTERNAL: obs ∪ dob ∪ aob ∪ bob is acyclic.
-    pub fn external(&self) -> bool {
-        acyclic(&self.ob)
-    }
+    // "po between reads and writes except from a write to a read"
+    let ppo = difference(&seq(&[&access, po, &access]), &seq(&[&w, po, &r]));
+    // "po into or out of an SC fence or an event of an rmw pair"; "Fences of modes 1 to 3 have no step here"
+    let any = union(&[&access, &f_sc]);
+    let barrier = union(&[&f_sc, &pair]);
+    let fenced = union(&[&seq(&[&any, po, &barrier]), &seq(&[&barrier, po, &any])]);
+    // "rfe, co, fr"
+    union(&[&ppo, &fenced, &external(rf, x), co, &from_read(x)])
 }

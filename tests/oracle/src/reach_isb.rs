@@ -2,7 +2,7 @@
 
 use crate::execution::Execution;
 use crate::generate::draft_of_kind;
-use crate::models::armv8;
+use crate::models::ob;
 use crate::random::Random;
 use crate::recording::*;
 use crate::relation::*;
@@ -36,7 +36,7 @@ impl Case {
         }
         // A fence of no mode serves no clause.
         recording.events.iter_mut().filter(|e| e.class == FENCE && e.mode == ISB).for_each(|e| e.mode = 0);
-        let others = armv8(&Execution::of(&recording)).ob;
+        let others = ob(&Execution::of(&recording));
         let answer = verdict.rule.is_none().then_some(verdict.events);
         let r = x.on(|e| e.class == READ);
         Some(Case { x, ctrl_links, others, answer, r, f_isb })

@@ -99,7 +99,7 @@ impl Case {
 /// kind at the least it shows a longer ring, of so many one that is longer by six events, and the number of events that it shows.
 pub type Routine = (&'static str, u8, &'static str, [usize; 2], fn(&Case) -> Option<usize>);
 
-pub const ROUTINES: [Routine; 12] = [
+pub const ROUTINES: [Routine; 16] = [
     ("source", 3, "depth first", [1300, 60], Case::depth_first),
     ("source", 3, "through the smallest event", [600, 5], Case::through_smallest),
     ("source", 3, "by hb from the smallest event", [350, 8], Case::by_hb),
@@ -112,14 +112,20 @@ pub const ROUTINES: [Routine; 12] = [
     ("chip", 3, "through the smallest event", [250, 0], Case::through_smallest),
     ("chip", 5, "depth first", [3500, 100], Case::depth_first),
     ("chip", 5, "through the smallest event", [900, 35], Case::through_smallest),
+    ("tso", 3, "depth first", [300, 0], Case::depth_first),
+    ("tso", 3, "through the smallest event", [140, 0], Case::through_smallest),
+    ("tso", 5, "depth first", [3800, 300], Case::depth_first),
+    ("tso", 5, "through the smallest event", [1000, 5], Case::through_smallest),
 ];
 
 /// By model and rule the lengths of shortest rings that are to arise. Under rule 3 there are no others (`boundary_rings`, `longest`).
-pub const LENGTHS: [(&str, u8, &[usize]); 4] = [
+pub const LENGTHS: [(&str, u8, &[usize]); 6] = [
     ("source", 3, &[1, 2, 3, 4, 5, 6, 7, 8]),
     ("source", 5, &[2, 3, 4, 5, 6, 7, 8, 9, 10, 12, 14, 16]),
     ("chip", 3, &[2, 3]),
     ("chip", 5, &[4, 5, 6, 7, 8, 10, 12, 14, 16]),
+    ("tso", 3, &[2, 3]),
+    ("tso", 5, &[4, 5, 6, 7, 8, 9, 10, 11]),
 ];
 
 /// What the verdicts on drawn recordings tell.

@@ -1,13 +1,13 @@
 //! The five rules, first broken one named, and the events shown (01, the verdicts and "What is shown").
 
 use crate::execution::Execution;
-use crate::models::{armv8, imm, split_pairs};
-use crate::relation::{shortest_path, union, Relation};
+use crate::models::{imm, ob, per_location, split_pairs, tso};
+use crate::relation::{acyclic, shortest_path, union, Relation};
 use std::cmp::Ordering;
 
 /// A verdict with what a shown ring may be made of.
 pub struct Verdict {
-    /// `source` or `chip`
+    /// `source`, `chip` or `tso`
     pub model: &'static str,
     /// The first broken rule; none if allowed.
     pub rule: Option<u8>,
@@ -28,9 +28,18 @@ pub fn judge_imm(x: &Execution) -> Verdict {
 
 /// The ARMv8 verdict.
 pub fn judge_armv8(x: &Execution) -> Verdict {
-    let model = armv8(x);
-    let (coherent, external) = (model.coherent(), model.external());
-    judge("chip", x, coherent, model.per_location, Relation::empty(), external, model.ob)
+    judge_per_location("chip", x, ob(x))
+}
+
+/// The x86-TSO verdict (02, slip 6), on a source recording itself.
+pub fn judge_tso(x: &Execution) -> Verdict {
+    judge_per_location("tso", x, tso(x))
+}
+
+/// The verdict of a model whose rule 3 is SC-PER-LOC.
+fn judge_per_location(model: &'static str, x: &Execution, order: Relation) -> Verdict {
+    let steps = per_location(x);
+    judge(model, x, acyclic(&steps), steps, Relation::empty(), acyclic(&order), order)
 }
 
 /// The rules in their order. `coherent` is rule 3, with the steps and the closing of its rings;

@@ -4,6 +4,7 @@
 use crate::boundary;
 use crate::boundary_rings;
 use crate::boundary_threads::{pairs, translated_pairs};
+use crate::boundary_tso;
 use crate::damage::any_file;
 use crate::handmade::{bytes, outcome};
 use crate::hex::to_hex;
@@ -14,16 +15,18 @@ use crate::reach::{self, Reach};
 use crate::reach_isb;
 use crate::reach_pages::{of_pages, PageReach, SORTS};
 use crate::reach_rings;
+use crate::reach_tso;
 use crate::recording::{load, CHIP, SOURCE};
 use crate::relation::*;
 use crate::rules::{ring_fault, Verdict};
 use crate::selftest_rings;
-use crate::shown::{answer, fault, verdicts};
+use crate::shown::{answer, fault, line_fault, verdicts};
 use crate::translation::translate;
 use crate::worked;
 use crate::worked_isb;
 use crate::worked_pages::PAGES;
 use crate::worked_rings;
+use crate::worked_tso;
 
 pub struct Tally {
     passed: usize,
@@ -58,6 +61,7 @@ pub fn run() -> bool {
         tally.test(row.name, fault(&file, &got).is_none(), || format!("{:?}", fault(&file, &got)));
     }
     worked_answers(&mut tally);
+    worked_tso_lines(&mut tally);
     let got = translate(&bytes(worked::TRANSLATION_FROM));
     tally.test("the worked translation", got == Ok(bytes(worked::TRANSLATION_TO)), || format!("{got:?}"));
     for each in [[6, 0, 0, 0], [6, 6, 4, 0]] {
@@ -67,6 +71,7 @@ pub fn run() -> bool {
     let chip = translate(&bytes(worked::TRANSLATION_TO));
     tally.test("a chip file is not translated", chip == Err(11), || format!("{chip:?}"));
     known_rings(&mut tally);
+    known_by_tso(&mut tally);
     pages(&mut tally);
     operators(&mut tally);
     selftest_rings::run(&mut tally);
@@ -75,6 +80,7 @@ pub fn run() -> bool {
     generated_pages(&mut tally);
     generated_barriers(&mut tally);
     generated_rings(&mut tally);
+    generated_by_tso(&mut tally);
     println!("{} passed, {} failed", tally.passed, tally.failed);
     tally.failed == 0
 }
@@ -83,7 +89,7 @@ pub fn run() -> bool {
 fn worked_answers(tally: &mut Tally) {
     let [(_, file, expected), ..] = worked::ANSWERS;
     let printed = answer(&bytes(file)).replace(';', "\n");
-    tally.test("the two lines of 01", printed == expected.replace(';', "\n"), || printed.clone());
+    tally.test("the lines of 01's example", printed == expected.replace(';', "\n"), || printed.clone());
     for (name, text, expected) in worked::ANSWERS.into_iter().chain(worked_isb::ANSWERS).chain(worked_rings::ANSWERS) {
         let file = bytes(text);
         let why = fault(&file, expected);
@@ -99,6 +105,20 @@ fn worked_answers(tally: &mut Tally) {
     }
 }
 
+/// tso lines derived by hand, right and wrong ones.
+fn worked_tso_lines(tally: &mut Tally) {
+    for (name, text, line) in worked_tso::LINES {
+        let file = bytes(text);
+        let why = line_fault(&tso_verdict(&file), line);
+        tally.test(name, why.is_none(), || format!("{why:?}; ours {}", answer(&file)));
+        tally.test(name, fault(&file, &answer(&file)).is_none(), || answer(&file));
+    }
+    for (name, text, wrong, why) in worked_tso::WRONG {
+        let got = line_fault(&tso_verdict(&bytes(text)), wrong);
+        tally.test(name, got.as_deref() == Some(why), || format!("{got:?}: {wrong}"));
+    }
+}
+
 /// The rules and the lengths of shortest rings against those known by hand.
 fn known_rings(tally: &mut Tally) {
     for case in boundary_rings::ringed() {
@@ -107,10 +127,28 @@ fn known_rings(tally: &mut Tally) {
         tally.test(&case.name, got.as_ref() == Ok(&case.rings), || format!("{got:?}, not {:?}", case.rings));
         let ours = answer(&case.file);
         tally.test(&case.name, fault(&case.file, &ours).is_none(), || ours.clone());
-        if !case.longer.is_empty() {
-            let why = verdicts(&case.file).ok().and_then(|list| ring_fault(&list[0], &case.longer));
-            let wanted = format!("{} events, where a ring of {} may be shown", case.longer.len(), case.rings[0].1);
+        if let Some((of, longer)) = &case.longer {
+            let why = verdicts(&case.file).ok().and_then(|list| ring_fault(&list[*of], longer));
+            let wanted = format!("{} events, where a ring of {} may be shown", longer.len(), case.rings[*of].1);
             tally.test(&case.name, why.as_ref() == Some(&wanted), || format!("{why:?}, not {wanted}"));
+        }
+    }
+}
+
+/// The tso verdict on a source file that loads.
+fn tso_verdict(file: &[u8]) -> Verdict {
+    let list = verdicts(file).unwrap_or_else(|cause| panic!("{} is refused with {cause}", to_hex(file)));
+    list.into_iter().find(|verdict| verdict.model == "tso").expect("a source file has a tso verdict")
+}
+
+/// The tso verdicts against those known by hand.
+fn known_by_tso(tally: &mut Tally) {
+    for case in boundary_tso::known() {
+        let tso = tso_verdict(&case.file);
+        let got = (tso.rule.unwrap_or(0), tso.events.len());
+        tally.test(&case.name, got == case.shown, || format!("{got:?}, not {:?}", case.shown));
+        if let Some(order) = &case.order {
+            tally.test(&case.name, tso.events == *order, || format!("{:?}, not {order:?}", tso.events));
         }
     }
 }
@@ -242,5 +280,22 @@ fn generated_rings(tally: &mut Tally) {
         let longer = told.longer[&(model, rule, name)];
         let enough = longer.iter().zip(least).all(|(&count, least)| count >= least);
         tally.test("drawn rings", enough, || format!("{model}, rule {rule}, {name}: {longer:?} recordings, not {least:?}"));
+    }
+}
+
+/// Drawn source recordings have every tso verdict, and many tell x86-TSO from each wrong reading of it.
+fn generated_by_tso(tally: &mut Tally) {
+    let told = reach_tso::of_source_recordings(&mut Random::new(8), 20_000);
+    tally.test("tso by its parts", told.otherwise == 0, || format!("{} recordings have another", told.otherwise));
+    for (rule, least) in reach_tso::VERDICTS {
+        let count = told.verdicts.get(&rule).copied().unwrap_or(0);
+        tally.test("drawn tso verdicts", count >= least, || format!("rule {rule}: {count} recordings, not {least}"));
+    }
+    let coherent = told.coherent >= reach_tso::COHERENT;
+    tally.test("rule 3 is not IMM's", coherent, || format!("{} recordings", told.coherent));
+    for (name, least, _) in reach_tso::WRONG {
+        let counts = told.wrong[name];
+        let enough = counts.iter().zip(least).all(|(&count, least)| if least == 0 { count == 0 } else { count >= least });
+        tally.test("drawn readings", enough, || format!("{name}: {counts:?} recordings, not {least:?}"));
     }
 }

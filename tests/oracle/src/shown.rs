@@ -2,16 +2,17 @@
 
 use crate::execution::Execution;
 use crate::recording::{load, SOURCE};
-use crate::rules::{judge_armv8, judge_imm, ring_fault, Verdict};
+use crate::rules::{judge_armv8, judge_imm, judge_tso, ring_fault, Verdict};
 use crate::translation::translate;
 
-/// The verdicts on a file: source then chip for kind 1, chip for kind 2; or the number of its refusal.
+/// The verdicts on a file: source, chip and tso for kind 1, chip for kind 2; or the number of its refusal.
 pub fn verdicts(file: &[u8]) -> Result<Vec<Verdict>, u8> {
     let recording = load(file)?;
     if recording.kind == SOURCE {
         let chip_file = translate(file)?;
         let chip = load(&chip_file).unwrap_or_else(|k| panic!("a translation is refused with {k}"));
-        Ok(vec![judge_imm(&Execution::of(&recording)), judge_armv8(&Execution::of(&chip))])
+        let source = Execution::of(&recording);
+        Ok(vec![judge_imm(&source), judge_armv8(&Execution::of(&chip)), judge_tso(&source)])
     } else {
         Ok(vec![judge_armv8(&Execution::of(&recording))])
     }
@@ -61,7 +62,8 @@ pub fn fault(file: &[u8], theirs: &str) -> Option<String> {
     list.iter().zip(lines).find_map(|(verdict, text)| line_fault(verdict, text))
 }
 
-fn line_fault(verdict: &Verdict, text: &str) -> Option<String> {
+/// Why a line is wrong for a verdict, or nothing if it is right.
+pub fn line_fault(verdict: &Verdict, text: &str) -> Option<String> {
     if !matches!(verdict.rule, Some(3) | Some(5)) {
         return (text != line(verdict)).then(|| format!("the {} line differs", verdict.model));
     }
