@@ -1,4 +1,4 @@
--- What a verdict on a file shows whose rule 3 is SC-per-location (ARMv8, x86-TSO), whatever the relation t of its rule 5 is.
+-- What the verdict of a model on a file shows whose rule 3 is SC-per-location (ARMv8, x86-TSO), whatever the relation t of its rule 5 is.
 use mathlib.Core.List.{List}
 use Prim.Native.Nat.{ℕ}
 use native.Mathlib.Omega.{arith}

@@ -22,7 +22,7 @@ ghost use Rattle.translation.specs.Translation.{translation};
 ghost use Rattle.lines.specs.Put.{bytes};
 ghost use Rattle.judgement.specs.Judgement.{OnSource, OnChip, OnTso, Prints};
 
-// The most bytes that the lines of a file have.
+// Room for the lines of a file: three, of at most 320 bytes each.
 pub const MOST: usize = 960;
 
 // The verdicts on a source file: of IMM, of ARMv8 on its translation, and of x86-TSO.

@@ -1,4 +1,4 @@
--- What a verdict says and shows whose rule 3 is SC-per-location (ARMv8, x86-TSO), for the base of an execution graph.
+-- What the verdict of a model says and shows whose rule 3 is SC-per-location (ARMv8, x86-TSO), for the base of an execution graph.
 use Rattle.relation.specs.Rel.{nodes}
 use Rattle.models.specs.Graph.{Base}
 use Rattle.models.specs.Term.{Term, eval}

@@ -1,6 +1,6 @@
 // What the verdicts of all memory models share: their answer, the base of an execution graph as arrays,
 // what the rules forbid that every model has, and the checks of the rules, in order, with what is shown of the first broken one.
-// The rules are those of `models`. Nothing here knows a model: `per_location` is of those that have that rule 3, whatever their rule 5 is.
+// The rules are those of `models`. Nothing here knows a model; `per_location` serves every one whose rule 3 is SC-per-location.
 
 pub mod base;
 pub mod per_location;
