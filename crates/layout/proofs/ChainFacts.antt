@@ -178,16 +178,17 @@ module _ (limit : ℕ) (next : ℕ → ℕ) where
   ended-after a end h = absurd (omega arith)
   ended-after a (step {l = l} p q w) h = (l, w, refl, q)
 
+  -- The start of a chain is 0 or on the chain.
+  pub ended-start : {x : ℕ} {l : List ℕ} → Ended limit next x l → x ≤ limit
+  ended-start end = omega arith
+  ended-start (step a b v) = b
+
   -- What follows a number of the chain is 0 or on the chain.
   pub ended-next : (y : ℕ) {x : ℕ} {l : List ℕ} → Ended limit next x l → among y l ≡ true → next y ≤ limit
   unfolding among
   ended-next y end m = absurd (false≢true m)
   ended-next y (step {x = x} {l = l} p q w) m =
-      elim (among-cases y x l m) [ inl e ↦ subst (λ (z : ℕ). next z ≤ limit) (sym e) (start w) | inr k ↦ ended-next y w k ]
-    where
-      start : {z : ℕ} {k : List ℕ} → Ended limit next z k → z ≤ limit
-      start end = omega arith
-      start (step a b v) = b
+      elim (among-cases y x l m) [ inl e ↦ subst (λ (z : ℕ). next z ≤ limit) (sym e) (ended-start w) | inr k ↦ ended-next y w k ]
 
 -- Chains from several starts, on which together nothing is met twice.
 module _ (limit : ℕ) (next start : ℕ → ℕ) where

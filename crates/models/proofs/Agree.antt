@@ -46,6 +46,25 @@ same-test true false f g = absurd (f .0 tt (g .1 (λ h. h)))
 same-test false true f g = absurd (g .0 tt (f .1 (λ h. h)))
 same-test false false f g = refl
 
+-- The tests of a model's rules, over the list es and the base B, pass exactly where the rules of the graph G fail.
+pub record Refutation (es : List ℕ) (B : Base) (M : Model) {E : Type 0} (G : Graph E) : Type 0 where
+  pub rule1 : Refutes (some es (unread es B)) (Rule1 G)
+  pub rule2 : Refutes (anywhere es (unordered es B)) (Rule2 G)
+  pub rule3 : Refutes (some es (diagonal (eval es (M .coherent) B))) (Rule3 M G)
+  pub rule4 : Refutes (anywhere es (eval es broken-pair B)) (Rule4 G)
+  pub rule5 : Refutes (some es (diagonal (eval es (M .order ⁺) B))) (Rule5 M G)
+
+-- Two lists and bases that test the rules of one graph have one verdict.
+pub same-verdict : (es fs : List ℕ) (B C : Base) (M : Model) {E : Type 0} {G : Graph E} → Refutation es B M G → Refutation fs C M G → verdict es B M ≡ verdict fs C M
+unfolding verdict failures
+same-verdict es fs B C M f g =
+    let p₁ = same-test _ _ (f .rule1) (g .rule1) in
+    let p₂ = same-test _ _ (f .rule2) (g .rule2) in
+    let p₃ = same-test _ _ (f .rule3) (g .rule3) in
+    let p₄ = same-test _ _ (f .rule4) (g .rule4) in
+    let p₅ = same-test _ _ (f .rule5) (g .rule5) in
+    λ i. first ((1, p₁ i) ∷ (2, p₂ i) ∷ (3, p₃ i) ∷ (4, p₄ i) ∷ (5, p₅ i) ∷ [])
+
 judged : {E : Type 0} (M : Model) (G : Graph E) (b₁ b₂ b₃ b₄ b₅ : Bool)
     → Refutes b₁ (Rule1 G) → Refutes b₂ (Rule2 G) → Refutes b₃ (Rule3 M G) → Refutes b₄ (Rule4 G) → Refutes b₅ (Rule5 M G)
     → Verdict M G (first ((1, b₁) ∷ (2, b₂) ∷ (3, b₃) ∷ (4, b₄) ∷ (5, b₅) ∷ []))
@@ -200,17 +219,21 @@ module _ (es : List ℕ) (B : Base) (G : Graph ℕ) (g : Agrees es B G) where
   edge-none : (t : Term) → ¬ T (anywhere es (eval es t B)) → (a b : ℕ) → ¬ ⟦ t ⟧ G a b
   edge-none t n a b h = anywhere-none (eval es t B) n a b (tests t .source a b h) (tests t .target a b h) (tests t .from a b h)
 
-  pub refutes-1 : Refutes (some es (unread es B)) (Rule1 G)
+  refutes-1 : Refutes (some es (unread es B)) (Rule1 G)
   refutes-1 = (unread-found, unread-none)
 
-  pub refutes-2 : Refutes (anywhere es (unordered es B)) (Rule2 G)
+  refutes-2 : Refutes (anywhere es (unordered es B)) (Rule2 G)
   refutes-2 = (unordered-found, unordered-none)
 
-  pub refutes-loop : (t : Term) → Refutes (some es (diagonal (eval es t B))) ((a : ℕ) → ¬ ⟦ t ⟧ G a a)
+  refutes-loop : (t : Term) → Refutes (some es (diagonal (eval es t B))) ((a : ℕ) → ¬ ⟦ t ⟧ G a a)
   refutes-loop t = (loop-found t, loop-none t)
 
-  pub refutes-4 : Refutes (anywhere es (eval es broken-pair B)) (Rule4 G)
+  refutes-4 : Refutes (anywhere es (eval es broken-pair B)) (Rule4 G)
   refutes-4 = (edge-found broken-pair, edge-none broken-pair)
+
+  -- Each test of a model's rules passes exactly where the rule fails.
+  pub refutation : (M : Model) → Refutation es B M G
+  refutation M = record { rule1 = refutes-1; rule2 = refutes-2; rule3 = refutes-loop (M .coherent); rule4 = refutes-4; rule5 = refutes-loop (M .order ⁺) }
 
   -- The computed verdict is the verdict.
   pub verdict-holds : (M : Model) → Verdict M G (verdict es B M)
@@ -302,13 +325,4 @@ module _ (es fs : List ℕ) (r : Recording ℕ) (v : Within es r) (w : Within fs
       (λ h. tests es _ _ (agrees es r v) t .from i j (tests fs _ _ (agrees fs r w) t .to i j h))
 
   pub verdict-relist : (M : Model) → verdict es (base es r) M ≡ verdict fs (base fs r) M
-  unfolding verdict failures
-  verdict-relist M =
-      let f = agrees es r v in
-      let g = agrees fs r w in
-      let p₁ = same-test _ _ (refutes-1 es _ _ f) (refutes-1 fs _ _ g) in
-      let p₂ = same-test _ _ (refutes-2 es _ _ f) (refutes-2 fs _ _ g) in
-      let p₃ = same-test _ _ (refutes-loop es _ _ f (M .coherent)) (refutes-loop fs _ _ g (M .coherent)) in
-      let p₄ = same-test _ _ (refutes-4 es _ _ f) (refutes-4 fs _ _ g) in
-      let p₅ = same-test _ _ (refutes-loop es _ _ f (M .order ⁺)) (refutes-loop fs _ _ g (M .order ⁺)) in
-      λ i. first ((1, p₁ i) ∷ (2, p₂ i) ∷ (3, p₃ i) ∷ (4, p₄ i) ∷ (5, p₅ i) ∷ [])
+  verdict-relist M = same-verdict es fs _ _ M (refutation es _ _ (agrees es r v) M) (refutation fs _ _ (agrees fs r w) M)

@@ -285,7 +285,7 @@ unfolding loadOf
 loaded-answer f a k p q = answer-loaded (refusal f) (headerOf f) k (sym p ∙ q)
 
 -- A call goes on with a file that loads and is of its side, and with no other.
-cause-late : (s : Side) (f : List ℕ) → refusal f ≡ 0 → causeFor s f ≡ first ((11, otherSide s f) ∷ [])
+pub cause-late : (s : Side) (f : List ℕ) → refusal f ≡ 0 → causeFor s f ≡ first ((11, otherSide s f) ∷ [])
 unfolding causeFor refusal causes headerCauses recordCauses linkCauses positive
 cause-late s f e = first-goes-on (causes f) _ refl e
 

@@ -17,7 +17,7 @@ use Rattle.recording.specs.Causes.{linkLegal}
 use Rattle.layout.proofs.FieldLaws.{recorded-bounds, event-small}
 use Rattle.layout.proofs.ChainLaws.{each-at}
 use Rattle.relation.proofs.Truth.{is-true, holds}
-use Rattle.layout.proofs.ChainFacts.{chain-ended, ended-next, met-cases}
+use Rattle.layout.proofs.ChainFacts.{chain-ended, ended-start, ended-next, met-cases}
 use Rattle.recording.proofs.Accepted.{threads-sound, legal-link, source-limits, sized as loaded-sized}
 use Rattle.recording.proofs.Loaded as loaded
 use Rattle.translation.specs.Contents.{contents}
@@ -57,6 +57,9 @@ module _ (f : List ℕ) (s : Source f) where
   threads-fresh =
       let l = threadsUpTo f threads in
       and-left (fresh (events f) [] l) (allMet (events f) l) (threads-sound f (s .loads))
+
+  pub head-within : (t : ℕ) → t < threads → head f t ≤ events f
+  head-within t h = ended-start (events f) (nextEvent f) (chain-ended (events f) (nextEvent f) (head f) threads t h threads-fresh)
 
   pub next-within : (e : ℕ) → 1 ≤ e → e ≤ events f → nextEvent f e ≤ events f
   unfolding onceEach

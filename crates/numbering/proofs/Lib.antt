@@ -1,0 +1,8 @@
+-- Slip 7, proved.
+pub mod Renumberings
+pub mod Recordings
+pub mod Decoded
+pub mod Answers
+pub mod Translations
+pub mod Files
+pub mod Proved

@@ -1,0 +1,1 @@
+// Numbering: no code, only the statement (specs/Numbering.antt) and its proof.
