@@ -19,7 +19,7 @@ use Rattle.output.specs.Output.{answerOf}
 use Rattle.output.proofs.FillLaws.{fills-written, fills-refused}
 use Rattle.translation.specs.Contents.{contents}
 use Rattle.probe.specs.Calls.{coded, codedAnswer, Reports}
-use Rattle.numbering.specs.Numbering.{Renumbered, SameAnswer, CallAgrees}
+use Rattle.numbering.specs.Answers.{SameAnswer, CallAgrees}
 use Rattle.numbering.proofs.Decoded.{verdicts-same}
 
 -- The answers to two calls with one cause and one rule, whatever is written.

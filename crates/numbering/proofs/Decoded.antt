@@ -3,7 +3,7 @@ use std.Equiv.{_≃_, isoToEquiv}
 use mathlib.Core.Path.{_≡_, sym, ap, ap₂, fun-ext, _∙_}
 use mathlib.Core.Bool.{Bool, true, false, _&&_}
 use mathlib.Core.List.{List}
-use mathlib.Core.Logic.{_⊎_, inl, inr}
+use mathlib.Core.Logic.{inl, inr}
 use Prim.Native.Nat.{ℕ, _+_, _-_, _*_, _<_, _≤_}
 use native.Mathlib.Omega.{arith}
 use native.Mathlib.Decide.{decLe}
@@ -11,11 +11,9 @@ use borrow.Author.Tests.{lt-leb}
 use lib.Dec.{eqb, leb, ltb}
 use Rattle.relation.specs.Rel.{nodes}
 use Rattle.relation.proofs.Truth.{by-test}
-use Rattle.relation.proofs.SetLaws.{and-false}
-use Rattle.models.specs.Recording.{Recording}
 use Rattle.models.specs.Graph.{base}
 use Rattle.models.specs.Rules.{Model, verdict}
-use Rattle.layout.specs.Layout.{events, locations, eventByte}
+use Rattle.layout.specs.Layout.{events, eventByte}
 use Rattle.layout.specs.Chains.{nextEvent}
 use Rattle.layout.specs.Decode.{isRecorded, isInitial, recordOr, fieldOr, decode}
 use Rattle.layout.proofs.FieldLaws.{recorded-bounds, initial-no, record-initial, record-recorded, record-none}

@@ -1,8 +1,7 @@
 -- The translations of source files that differ in their numbering differ in their numbering.
-use mathlib.Core.Path.{_≡_, sym, ap, subst, _∙_}
-use mathlib.Core.Bool.{true}
+use mathlib.Core.Path.{_≡_, sym, ap, _∙_}
 use mathlib.Core.List.{List}
-use mathlib.Core.Logic.{_⊎_, inl, inr}
+use mathlib.Core.Logic.{inl, inr}
 use Prim.Native.Nat.{ℕ, _<_, _≤_}
 use native.Mathlib.Omega.{arith}
 use Rattle.relation.proofs.Truth.{holds}
@@ -11,13 +10,12 @@ use Rattle.layout.specs.Layout.{source, side, sideOf, events, eventByte}
 use Rattle.layout.specs.Decode.{decode}
 use Rattle.recording.proofs.Loaded.{loaded-within}
 use Rattle.translation.specs.Contents.{Contents, contents}
-use Rattle.translation.specs.Translate.{newEvents, translated}
 use Rattle.translation.specs.Encode.{eventRecord, encode}
-use Rattle.translation.specs.Translation.{chip, translation}
+use Rattle.translation.specs.Translation.{translation}
 use Rattle.translation.specs.Parts.{Source}
 use Rattle.translation.proofs.EncodeLaws.{encode-kind, encode-events, encode-locations, encode-head, encode-event}
 use Rattle.translation.proofs.EncodedLinks.{LinksFit, encoded-link}
-use Rattle.translation.proofs.Says.{Event, initially, recorded, event-says, encode-next}
+use Rattle.translation.proofs.Says.{initially, recorded, event-says, encode-next}
 use Rattle.translation.proofs.SourceFacts as facts
 use Rattle.translation.proofs.Bounds.{most-events, links-fit}
 use Rattle.translation.proofs.Theorems.{translation-loads}

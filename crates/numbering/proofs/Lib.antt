@@ -3,6 +3,8 @@ pub mod Renumberings
 pub mod Recordings
 pub mod Decoded
 pub mod Answers
+pub mod Equivalence
 pub mod Translations
 pub mod Files
+pub mod Printed
 pub mod Proved

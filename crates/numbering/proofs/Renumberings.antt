@@ -1,5 +1,5 @@
--- Laws of renumberings, and of contents that differ by one.
-use mathlib.Core.Path.{_≡_, sym, ap, ap₂, _∙_}
+-- Laws of renumberings.
+use mathlib.Core.Path.{_≡_, sym, ap, _∙_}
 use mathlib.Core.Bool.{true, false, false≢true}
 use mathlib.Core.Logic.{inl, inr}
 use Prim.Native.Nat.{ℕ, _<_, _≤_}
@@ -58,41 +58,8 @@ numbers-fewer m n h e p =
 pub thread-within : (n : Renumbering (λ t. ltb t threads)) (t : ℕ) → t < threads → n .to t < threads
 thread-within n t h = ltb-true (n .to t) threads (kept-in n t ∙ lt-ltb t threads h)
 
--- Contents and what renumbering makes of them.
-module _ {s c : Contents} (w : Renumbers s c) where
-  abbrev n : Renumbering (numbersTo (s .events))
-  n = w .event
-
-  pub moved-within : (e : ℕ) → 1 ≤ e → e ≤ s .events → (1 ≤ n .to e) × (n .to e ≤ c .events)
-  moved-within e h g = (let p = numbers-is (s .events) (n .to e) (kept-in n e ∙ numbers-intro (s .events) e h g) in (p .0, omega (arith, p .1, w .events)))
-
-  -- The way back.
-  pub back-within : (e : ℕ) → 1 ≤ e → e ≤ c .events → (1 ≤ n .back e) × (n .back e ≤ s .events)
-  unfolding reversed
-  back-within e h g = numbers-is (s .events) (n .back e) (kept-in (reversed n) e ∙ numbers-intro (s .events) e h (omega (arith, w .events)))
-
-  -- A number of each record, by the records before and after.
-  pub field-back : (p q : ℕ → ℕ) → ((e : ℕ) → 1 ≤ e → e ≤ s .events → q (n .to e) ≡ p e) → (e : ℕ) → 1 ≤ e → e ≤ c .events → p (n .back e) ≡ q e
-  field-back p q same e h g = (let b = back-within e h g in sym (same (n .back e) (b .0) (b .1)) ∙ ap q (n .to-back e))
-
-  unfoldable pub renumbers-back : Renumbers c s
-  unfolding reversed within
-  renumbers-back =
-      record {
-        kind = sym (w .kind);
-        events = sym (w .events);
-        locations = sym (w .locations);
-        event = within (reversed n) (numbersTo (c .events)) (numbers-fewer (s .events) (c .events) (omega (arith, w .events)));
-        thread = reversed (w .thread);
-        head = λ t h. (let u = w .thread .back t in let k = thread-within (reversed (w .thread)) t h in
-            sym (n .back-to (s .head u)) ∙ ap (n .back) (sym (w .head u k) ∙ ap (c .head) (w .thread .to-back t)));
-        next = λ e h g. (let b = back-within e h g in
-            sym (n .back-to (s .next (n .back e))) ∙ ap (n .back) (sym (w .next (n .back e) (b .0) (b .1)) ∙ ap (c .next) (n .to-back e)));
-        class = field-back (s .class) (c .class) (w .class);
-        mode = field-back (s .mode) (c .mode) (w .mode);
-        flag = field-back (s .flag) (c .flag) (w .flag);
-        location = field-back (s .location) (c .location) (w .location);
-        low = field-back (s .low) (c .low) (w .low);
-        high = field-back (s .high) (c .high) (w .high);
-        link = λ t a b. sym (w .link t (n .back a) (n .back b)) ∙ ap₂ (c .link t) (n .to-back a) (n .to-back b);
-      }
+-- The events.
+pub moved-within : {s c : Contents} (w : Renumbers s c) (e : ℕ) → 1 ≤ e → e ≤ s .events → (1 ≤ w .event .to e) × (w .event .to e ≤ c .events)
+moved-within {s} {c} w e h g =
+    let p = numbers-is (s .events) (w .event .to e) (kept-in (w .event) e ∙ numbers-intro (s .events) e h g) in
+    (p .0, omega (arith, p .1, w .events))

@@ -16,9 +16,10 @@ use Rattle.layout.specs.Layout.{threads}
 use Rattle.translation.specs.Contents.{Contents}
 use Rattle.translation.specs.Translate.{flagged, exclusive, strong, inserted, newEvents, fenced, after, keptOr, newMode, newFlag, controlled, newLink, translated}
 use Rattle.translation.proofs.TranslateLaws as law
-use Rattle.translation.proofs.TranslateLaws.{flagged-is, flagged-intro, New, Linked, stays, exclusively, casdep}
+use Rattle.translation.proofs.TranslateLaws.{flagged-is, flagged-intro, Linked, stays, exclusively, casdep}
 use Rattle.numbering.specs.Numbering.{Renumbering, numbersTo, Renumbers}
-use Rattle.numbering.proofs.Renumberings.{injective, within, reversed, renumbers-back, numbers-is, numbers-intro, numbers-fewer, moved-within}
+use Rattle.numbering.proofs.Renumberings.{injective, within, reversed, numbers-is, numbers-intro, numbers-fewer, moved-within}
+use Rattle.numbering.proofs.Equivalence.{renumbers-back}
 
 -- What loading ensures of the contents of a source file: events are few, and chains and links join events.
 pub record Sourced (s : Contents) : Type 0 where

@@ -3,24 +3,16 @@
 -- links, chained in any order. For all twins the verdict and the broken rule agree in every model, and the translations of source twins are
 -- twins again. The ring and the allowed order may differ, since they go by number."
 use mathlib.Core.Path.{_≡_}
-use mathlib.Core.Bool.{true, false, _&&_}
+use mathlib.Core.Bool.{false, _&&_}
 use mathlib.Core.List.{List}
-use Prim.Native.Nat.{ℕ, _<_, _≤_, _/_, _%_}
+use Prim.Native.Nat.{ℕ, _<_, _≤_}
 use lib.Dec.{leb, ltb}
-use lib.ListN.{length}
 use Rattle.relation.specs.Rel.{Set}
-use Rattle.models.specs.Graph.{Base}
-use Rattle.models.specs.Rules.{Model, IMM, ARMv8, TSO}
-use Rattle.layout.specs.Layout.{Side, source, chip, side, threads}
+use Rattle.layout.specs.Layout.{source, side, threads}
 use Rattle.recording.specs.Causes.{refusal}
-use Rattle.verdict.specs.declared.Verdict.{Verdict}
-use Rattle.imm.specs.Judged as imm
-use Rattle.armv8.specs.Judged as armv8
-use Rattle.tso.specs.Judged as tso
 use Rattle.translation.specs.Contents.{Contents, contents}
 use Rattle.translation.specs.Translation.{translation}
 use Rattle.soundness.specs.Soundness.{immVerdict, armv8Verdict, tsoVerdict}
-use Rattle.probe.specs.Calls.{Reports}
 
 -- New numbers for those in s: `to` gives the new number, `back` the old one. Every other number stays.
 pub record Renumbering (s : Set) : Type 0 where
@@ -60,6 +52,12 @@ pub record Renumbered (f g : List ℕ) : Type 0 where
   pub loads-too : refusal g ≡ 0
   pub renumbers : Renumbers (contents f) (contents g)
 
+-- Of the files that load it is an equivalence.
+pub record Equivalence : Type 0 where
+  pub reflexive : (f : List ℕ) → refusal f ≡ 0 → Renumbered f f
+  pub symmetric : (f g : List ℕ) → Renumbered f g → Renumbered g f
+  pub transitive : (f g h : List ℕ) → Renumbered f g → Renumbered g h → Renumbered f h
+
 -- "For all twins the verdict and the broken rule agree in every model": 0 is allowed, else the number of the first broken rule.
 pub record SameVerdicts (f g : List ℕ) : Type 0 where
   pub imm : immVerdict f ≡ immVerdict g
@@ -72,20 +70,3 @@ VerdictsAgree = (f g : List ℕ) → Renumbered f g → SameVerdicts f g
 -- "the translations of source twins are twins again"
 abbrev pub TranslationsAgree : Type 0
 TranslationsAgree = (f g : List ℕ) → Renumbered f g → side f ≡ source → Renumbered (translation f) (translation g)
-
--- Two answers of calls (`coded`) with one refusal, the lowest byte, and one broken rule, the next byte.
-pub record SameAnswer (r q : ℕ) : Type 0 where
-  pub refusal : r % 256 ≡ q % 256
-  pub rule : r / 256 % 256 ≡ q / 256 % 256
-
--- The call of a model, whose files are of side s, answers so on both files. Each output has room for all events: 64 bytes.
-abbrev pub CallAgrees : Side → Model → (Base → Verdict → Type 0) → Type 0
-CallAgrees s M Judged =
-    (f g : List ℕ) → Renumbered f g → (out₁ out₂ left₁ left₂ : List ℕ) (r₁ r₂ : ℕ) → 64 ≤ length out₁ → 64 ≤ length out₂
-    → Reports s M Judged f out₁ r₁ left₁ → Reports s M Judged g out₂ r₂ left₂ → SameAnswer r₁ r₂
-
--- The same of the calls: what `probe_imm`, `probe_armv8` and `probe_tso` promise to answer.
-pub record CallsAgree : Type 0 where
-  pub imm : CallAgrees source IMM imm.Judged
-  pub armv8 : CallAgrees chip ARMv8 armv8.Judged
-  pub tso : CallAgrees source TSO tso.Judged
