@@ -1,4 +1,5 @@
-"""The cases of tests/tools: texts with their bytes, wrong texts and refused recordings with what is said of them, and misuses."""
+"""The cases of tests/tools: texts with their bytes, wrong texts and refused recordings with what is said of them, renumbered recordings,
+and misuses."""
 
 WORKED = "01 02 01 01 01 00 00 00 02 02 00 00 00 01 00 00 00 01 00 00 00 01 00 01 00 01 01 00"
 HAND_WRITTEN = [  # a text, its file's bytes
@@ -196,6 +197,26 @@ BYTES = [  # a file, the reason why it is refused
     (HEAD + " 00 01 38 01", "link 1 (rf 56 -> 1): its last byte is 1, not 0 (refusal 8)"),
 ]
 
+# Renumbered recordings.
+
+SEEDS = [(), ("--seed", "1"), ("--seed", "2"), ("--seed", "999999999")]  # words of the program; the first two are the same seed
+BRANCHED = "source locations x\nthread 2\n1: read relaxed exclusive x = 0\n2: write relaxed x = 1\nthread 3\n3: write relaxed x = 2\n"
+BRANCHED += "rf init x -> 1\nrmw 1 -> 2\ndata 1 -> 2\nco 3 -> 2\nco 3 -> 2\nchain 2: 3 2 5 4\n"  # one link is there twice
+RENUMBERED = [  # a text, a seed, the bytes of its file with other numbers, which must stay as they are
+    (BRANCHED, "1", """01 03 01 05 00 02 01 00
+     03 01 00 01 00 00 00 04    00 02 00 00 00 02 00 00    00 02 00 00 00 01 00 01
+     05 04 01 00    03 03 01 00    00 02 02 00    00 01 38 00    02 02 02 00"""),
+    (BRANCHED, "2", """01 03 01 05 00 00 01 03
+     00 02 00 00 00 02 00 00    00 02 00 00 00 01 00 03    02 01 00 01 00 00 00 02
+     04 02 01 00    00 01 38 00    01 02 01 00    05 03 03 00    00 04 03 00"""),
+    ("chip locations x y\n", "5", "02 00 02 00 00 00 00 00"),
+    ("source\n", "1", "01 00 00 00 00 00 00 00"),
+]
+OTHER = """01 06 02 02 00 00 01 05
+ 04 02 00 00 00 01 00 00    00 01 00 00 00 00 00 01    02 03 04 00 00 00 00 00
+ 06 03 04 00 00 00 00 00    03 02 00 00 01 01 00 00    00 01 00 00 01 00 00 02
+ 00 01 38 00    00 01 39 00"""  # store buffering with SC fences, renumbered without a seed: the README says what the judge prints of it
+
 # The program.
 
 BREAKS = {  # how a drawing names a broken rule, of any model or of one
@@ -205,9 +226,15 @@ BREAKS = {  # how a drawing names a broken rule, of any model or of one
 }
 RING_OF_ONE = ("source locations x\nthread 1\n1: fence sc\n", "source broken 3 1")
 MISUSES = [  # words, part of what is said behind the usage
-    ((), "the following arguments are required"), (("text",), "required: file"), (("list", "x.rec"), "(choose from 'text', 'bytes', 'check', 'draw')"),
+    ((), "the following arguments are required"), (("text",), "required: file"), (("renumber",), "required: file"),
+    (("list", "x.rec"), "(choose from 'text', 'bytes', 'check', 'renumber', 'draw')"), (("renumber", "x", "y"), "renumber takes one file"),
     (("text", "x.rec", "y.rec"), "text takes one file"), (("bytes", "x", "y"), "bytes takes one file"), (("check", "x", "y"), "check takes one file"),
     (("check", "x", "-o", "y"), "check writes to standard output and has no -o"), (("text", "x", "-o", ""), "-o has an empty name"),
     (("draw", "x.rec", "-o", "x.png"), "-o x.png: a drawing's name ends in .dot or .svg"), (("text", "x", "-x"), "unrecognized arguments: -x"),
-    *(((word, "x.rec", "--tso"), "--tso draws a line of VERDICT, and none is given") for word in ("draw", "text")),
+    *(((word, "x.rec", "--tso"), "--tso draws a line of VERDICT, and none is given") for word in ("draw", "text", "renumber")),
+    (("renumber", "x", "-o", ""), "-o has an empty name"), (("renumber", "x", "--seed"), "argument --seed: expected one argument"),
+    *((("renumber", "x.rec", "--seed", word), f"--seed {word}: a seed is a number from 0 to 999999999")
+      for word in ("", "one", "-1", "1.0", "0x1", " 1", "1_0", "1000000000")),
+    (("renumber", "x.rec", "--seed", "1", "2"), "renumber takes one file"),
+    *(((word, "x.rec", "--seed", "1"), f"{word} has no --seed") for word in ("text", "bytes", "check", "draw")),
 ]

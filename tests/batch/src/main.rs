@@ -1,11 +1,12 @@
 //! The batch driver over the probe's static library.
 //!
-//!     batch load | translate | translate-rooms | judge | judge-rooms | verdicts-rooms | own-ring < FILES
+//!     batch load | translate | translate-rooms | judge | judge-rooms | verdicts | verdicts-rooms | own-ring < FILES
 //!     batch page | page-rooms < FILES_AND_RINGS
 //!
 //! reads one file a line in hexadecimal (an empty line is the empty file), for a page FILE<TAB>RING, and writes one answer a line:
 //! `load` writes `loads` or `refused K`, `translate` the translation in hexadecimal or `refused K`, `page` the same of the page,
-//! `judge` what the judge prints, with `;` for a line feed, and `verdicts` the same, made of what the calls for the verdicts answer.
+//! `judge` what the judge prints, with `;` for a line feed, and `verdicts` the same, made of what the calls for the verdicts answer, each with
+//! an output of 64 bytes.
 //! `own-ring` writes FILE<TAB>RING: the events of a broken verdict of the file's own kind, none if it is allowed or refused.
 //! Every output lies between guard bytes. With `-rooms` it is lent three times: longer than the answer, as long, and one byte shorter.
 
@@ -19,7 +20,7 @@ use lent::{at_each_room, lent, Answer, Call, MOST};
 use std::io::{self, BufRead, BufWriter, Write};
 use std::process::exit;
 
-const USAGE: &str = "usage: batch load | translate | translate-rooms | judge | judge-rooms | verdicts-rooms | own-ring < FILES
+const USAGE: &str = "usage: batch load | translate | translate-rooms | judge | judge-rooms | verdicts | verdicts-rooms | own-ring < FILES
        batch page | page-rooms < FILES_AND_RINGS";
 
 extern "C" {
@@ -66,7 +67,8 @@ fn named(word: &str) -> Option<Word> {
         "translate-rooms" => Word::OfFile(|file| written(at_each_room(Call::OfFile(probe_translate, file)))),
         "judge" => Word::OfFile(|file| lines(lent(Call::OfFile(probe_judge, file), MOST))),
         "judge-rooms" => Word::OfFile(|file| lines(at_each_room(Call::OfFile(probe_judge, file)))),
-        "verdicts-rooms" => Word::OfFile(verdicts::lines),
+        "verdicts" => Word::OfFile(|file| verdicts::lines(file, lent)),
+        "verdicts-rooms" => Word::OfFile(|file| verdicts::lines(file, |call, _| at_each_room(call))),
         "own-ring" => Word::OfFile(|file| format!("{}\t{}", to_hex(file), to_hex(&verdicts::own_ring(file)))),
         "page" => Word::OfRing(|file, ring| written(lent(Call::OfRing(probe_page, file, ring), MOST))),
         "page-rooms" => Word::OfRing(|file, ring| written(at_each_room(Call::OfRing(probe_page, file, ring)))),

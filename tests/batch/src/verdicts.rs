@@ -1,7 +1,13 @@
 //! The judge's lines and the ring of a file, made of what the calls for the verdicts answer.
 
-use crate::lent::{at_each_room, lent, Answer, Call, MOST};
+use crate::lent::{lent, Answer, Call, MOST};
 use crate::probe_translate;
+
+/// The most bytes that a verdict writes.
+const ROOM: usize = 64;
+
+/// The answer of a call whose output is lent with so much room, or in some other way.
+type Lending = fn(Call, usize) -> Answer;
 
 extern "C" {
     fn probe_imm(file: *const u8, len: usize, out: *mut u8, room: usize) -> u64;
@@ -19,9 +25,9 @@ fn line(model: &str, verdict: &Answer) -> String {
 }
 
 /// The lines of a source file whose verdicts under IMM and x86-TSO are given.
-fn source_lines(file: &[u8], imm: &Answer, tso: &Answer) -> String {
-    let chip = at_each_room(Call::OfFile(probe_translate, file)).bytes;
-    let armv8 = at_each_room(Call::OfFile(probe_armv8, &chip));
+fn source_lines(file: &[u8], lending: Lending, imm: &Answer, tso: &Answer) -> String {
+    let chip = lending(Call::OfFile(probe_translate, file), MOST).bytes;
+    let armv8 = lending(Call::OfFile(probe_armv8, &chip), ROOM);
     match armv8.refusal {
         0 => line("source", imm) + &line("chip", &armv8) + &line("tso", tso),
         cause => format!("translation refused {cause}"),
@@ -29,10 +35,10 @@ fn source_lines(file: &[u8], imm: &Answer, tso: &Answer) -> String {
 }
 
 /// A file that loads is refused with 11 by the verdicts of the other kind; one that does not load has one number in all.
-pub fn lines(file: &[u8]) -> String {
-    let [imm, armv8, tso] = [probe_imm, probe_armv8, probe_tso].map(|verdict| at_each_room(Call::OfFile(verdict, file)));
+pub fn lines(file: &[u8], lending: Lending) -> String {
+    let [imm, armv8, tso] = [probe_imm, probe_armv8, probe_tso].map(|verdict| lending(Call::OfFile(verdict, file), ROOM));
     match [imm.refusal, armv8.refusal, tso.refusal] {
-        [0, 11, 0] => source_lines(file, &imm, &tso),
+        [0, 11, 0] => source_lines(file, lending, &imm, &tso),
         [11, 0, 11] => line("chip", &armv8),
         [cause @ (1..=10 | 13), other, third] if [cause; 2] == [other, third] => format!("refused {cause};"),
         causes => format!("refused {causes:?}"),

@@ -29,6 +29,17 @@ impl Draft {
         Draft { kind, locations: 0, events: Vec::new(), threads: Default::default(), links: Vec::new() }
     }
 
+    /// The draft of a recording that loads.
+    pub fn of(recording: &Recording) -> Draft {
+        let fields = |e: &Event| DraftEvent { class: e.class, mode: e.mode, flag: e.flag, location: e.location, value: e.value };
+        let mut draft = Draft::empty(recording.kind);
+        draft.locations = recording.locations;
+        draft.events = recording.events.iter().map(fields).collect();
+        draft.threads.clone_from_slice(&recording.threads);
+        draft.links = recording.link_triples();
+        draft
+    }
+
     pub fn event(&self, n: u8) -> &DraftEvent {
         &self.events[n as usize - 1]
     }

@@ -1,6 +1,7 @@
 //! The oracle's command line.
 //! Files are lines of lower-case hexadecimal digits; in an answer `;` stands for a line feed.
 
+mod altered;
 mod boundary;
 mod boundary_events;
 mod boundary_links;
@@ -34,8 +35,11 @@ mod reach_rings;
 mod reach_tso;
 mod recording;
 mod relation;
+mod renumber;
+mod renumbered;
 mod rules;
 mod selftest;
+mod selftest_numbering;
 mod selftest_rings;
 mod shaped;
 mod shown;
@@ -43,6 +47,7 @@ mod sketch;
 mod translation;
 mod worked;
 mod worked_isb;
+mod worked_numbering;
 mod worked_pages;
 mod worked_rings;
 mod worked_tso;
@@ -60,6 +65,8 @@ const USAGE: &str = "usage: oracle COMMAND
   check              lines FILE<TAB>ANSWER in, differences out; status 1 if there are any
   generate SEED N    N random files
   rings SEED         files in, lines FILE<TAB>RING out, with random rings
+  renumber SEED      files in, a renumbered copy of each or `refused K` out
+  renumbered         lines FILE<TAB>FILE in, `renumbered` out where both load and differ in numbering at most, else `different`
   boundary           lines NAME<TAB>FILE<TAB>EXPECTED
   litmus             lines NAME<TAB>FILE<TAB>ANSWER
   demand3 SEED N     demand 3, and the claim for x86-TSO, on N random source recordings
@@ -80,6 +87,8 @@ fn main() {
         ["check"] => check(&mut out),
         ["generate", seed, count] => generate(&mut out, number(seed), number(count)),
         ["rings", seed] => rings(&mut out, number(seed)),
+        ["renumber", seed] => renumber(&mut out, number(seed)),
+        ["renumbered"] => renumbered(&mut out),
         ["boundary"] => boundary::cases()
             .iter()
             .try_for_each(|c| writeln!(out, "{}\t{}\t{}", c.name, to_hex(&c.file), outcome(c.expected))),
@@ -163,6 +172,28 @@ fn rings(out: &mut impl Write, seed: u64) -> io::Result<()> {
     for line in lines() {
         let ring = lent_rings::draw(&mut random, &file_of(&line));
         writeln!(out, "{line}\t{}", to_hex(&ring))?;
+    }
+    Ok(())
+}
+
+/// Draws a renumbered copy of each file line of the input.
+fn renumber(out: &mut impl Write, seed: u64) -> io::Result<()> {
+    let mut random = random::Random::new(seed);
+    for line in lines() {
+        writeln!(out, "{}", written_or_refused(renumber::renumber(&mut random, &file_of(&line))))?;
+    }
+    Ok(())
+}
+
+/// Says of each line of two files whether one is a renumbered copy of the other.
+fn renumbered(out: &mut impl Write) -> io::Result<()> {
+    for line in lines() {
+        let Some((one, other)) = line.split_once('\t') else {
+            eprintln!("no tab: {line}");
+            exit(2);
+        };
+        let is_copy = renumbered::renumbered(&file_of(one), &file_of(other));
+        writeln!(out, "{}", if is_copy { "renumbered" } else { "different" })?;
     }
     Ok(())
 }

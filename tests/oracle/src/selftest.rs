@@ -1,4 +1,4 @@
-//! The oracle's own tests: boundary files, litmus rows, worked examples, rings, pages, operators, its own answers,
+//! The oracle's own tests: boundary files, litmus rows, worked examples, rings, pages, operators, its own answers, renumbered copies,
 //! and what generated files and rings reach.
 
 use crate::boundary;
@@ -19,6 +19,7 @@ use crate::reach_tso;
 use crate::recording::{load, CHIP, SOURCE};
 use crate::relation::*;
 use crate::rules::{ring_fault, Verdict};
+use crate::selftest_numbering;
 use crate::selftest_rings;
 use crate::shown::{answer, fault, line_fault, verdicts};
 use crate::translation::translate;
@@ -76,6 +77,7 @@ pub fn run() -> bool {
     operators(&mut tally);
     selftest_rings::run(&mut tally);
     own_answers(&mut tally);
+    selftest_numbering::run(&mut tally);
     generated_files(&mut tally);
     generated_pages(&mut tally);
     generated_barriers(&mut tally);
