@@ -69,7 +69,7 @@ probe_answer probe_load(const uint8_t *file, size_t length);
  *                    no ring that may be shown has fewer events, and which of several that have as few is shown is free
  * A source file that probe_imm calls broken, under any rule, is one that probe_tso calls broken.
  * Of two files that load and differ only in how events and threads are numbered and links are chained, each call gives the same
- * refusal and the same rule, where out has PROBE_MOST_EVENTS bytes; the events that are shown go by number and may differ.
+ * refusal and the same rule, where out has PROBE_MOST_EVENTS bytes or more; the events that are shown go by number and may differ.
  * docs/FORMAT.md has the rules and the relations, docs/READING.md how to read what is shown. */
 probe_answer probe_imm(const uint8_t *file, size_t length, uint8_t *out, size_t room);
 probe_answer probe_armv8(const uint8_t *file, size_t length, uint8_t *out, size_t room);

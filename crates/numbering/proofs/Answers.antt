@@ -61,8 +61,8 @@ module _ (s : Side) (M : Model) (Judged : Base → Verdict → Type 0)
       -- The answer has cause k and its rule, and at most 64 events are shown.
       coded-so : (k : ℕ) → refusalOf (v .answer) ≡ k → ruleOf (v .answer) ≡ named k number → v .len ≤ 64 → (n : ℕ) × (r ≡ coded k (named k number) n)
       coded-so k p q h =
-          let few : length (events v) ≤ length out = omega (arith, length-take (v .len) (v .at)) in
-          let a = answer-coded k number (events v) out few in
+          let fits : length (events v) ≤ length out = omega (arith, length-take (v .len) (v .at)) in
+          let a = answer-coded k number (events v) out fits in
           (a .0, w .reported .answer ∙ ap₂ (λ (x y : ℕ). codedAnswer x (answerOf y (events v) (length out))) q p ∙ a .1)
 
       go : (k : ℕ) → causeFor s f ≡ k → (n : ℕ) × (r ≡ coded k (named k number) n)

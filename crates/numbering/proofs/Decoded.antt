@@ -43,7 +43,7 @@ module _ (f g : List ℕ) (w : Renumbered f g) where
   recorded-along e = sym (kept-in n e) ∙ ap (λ (m : ℕ). leb 1 (to e) && leb (to e) m) (sym same-events)
 
   -- An event keeps its number, or has a record before and after.
-  pub data Moved (e : ℕ) : Type 0 where
+  data Moved (e : ℕ) : Type 0 where
     stays : to e ≡ e → isRecorded f e ≡ false → Moved e
     moves : isRecorded f e ≡ true → isRecorded g (to e) ≡ true → 1 ≤ e → e ≤ events f → e < 56 → to e < 56 → Moved e
 

@@ -23,7 +23,7 @@ pub record SameAnswer (r q : ℕ) : Type 0 where
   pub refusal : r % 256 ≡ q % 256
   pub rule : r / 256 % 256 ≡ q / 256 % 256
 
--- The call of a model, whose files are of side s, answers so on both files. Each output has room for all events: 64 bytes.
+-- The call of a model, whose files are of side s, answers so on both files. Each output has room for all events: 64 bytes or more.
 abbrev pub CallAgrees : Side → Model → (Base → Verdict → Type 0) → Type 0
 CallAgrees s M Judged =
     (f g : List ℕ) → Renumbered f g → (out₁ out₂ left₁ left₂ : List ℕ) (r₁ r₂ : ℕ) → 64 ≤ length out₁ → 64 ≤ length out₂
