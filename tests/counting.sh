@@ -39,11 +39,14 @@ closing() {
   [ $((failed + amiss)) -eq 0 ]
 }
 
+# differing ONE TWO: how many lines of two lists differ, as text: awk takes a file in digits alone for a number, and rounds it.
+differing() { paste -d '|' "$1" "$2" | awk -F '|' '($1 "") != ($2 "") { n++ } END { print n + 0 }'; }
+
 # same NAME EXPECTED GOT: compares two lists of answers line by line; each line is a case.
 same() {
   local number different
   number=$(wc -l <"$2")
-  different=$(paste -d '|' "$2" "$3" | awk -F '|' '$1 != $2 { n++ } END { print n + 0 }')
+  different=$(differing "$2" "$3")
   [ "$different" -le "$number" ] || different=$number
   count $((number - different)) "$different"
   echo "$1: $number files, $different different"

@@ -8,10 +8,12 @@ use Rattle.models.specs.Graph.{Base}
 use Rattle.models.specs.Rules.{Model, IMM, ARMv8, TSO}
 use Rattle.layout.specs.Layout.{Side, source, chip, side}
 use Rattle.verdict.specs.declared.Verdict.{Verdict}
-use Rattle.verdict.specs.declared.Answer.{Answer}
+use Rattle.verdict.specs.Answer.{answers}
 use Rattle.imm.specs.Judged as imm
 use Rattle.armv8.specs.Judged as armv8
 use Rattle.tso.specs.Judged as tso
+use Rattle.translation.specs.Translation.{translation}
+use Rattle.soundness.specs.Soundness.{immVerdict, armv8Verdict, tsoVerdict}
 use Rattle.lines.specs.Lines as lines
 use Rattle.lines.specs.Lines.{lineOf}
 use Rattle.judgement.specs.Judgement.{Prints}
@@ -35,15 +37,20 @@ pub record CallsAgree : Type 0 where
   pub armv8 : CallAgrees chip ARMv8 armv8.Judged
   pub tso : CallAgrees source TSO tso.Judged
 
--- The same of what the judge prints: the words and answers of its lines agree; x, y and z are the events behind them.
-abbrev pub SourceText : Answer → Answer → Answer → List ℕ → Type 0
-SourceText a b c text = (x y z : List ℕ) × (text ≡ (lineOf lines.source a x ++ lineOf lines.chip b y) ++ lineOf lines.tso c z)
+-- The same of what the judge prints. The text has the lines of f's answers, whatever events x, y and z they show.
+abbrev pub SourceText : List ℕ → List ℕ → Type 0
+SourceText f text =
+    (x y z : List ℕ)
+    × (text
+    ≡ (lineOf lines.source (answers (immVerdict f)) x ++ lineOf lines.chip (answers (armv8Verdict (translation f))) y)
+    ++ lineOf lines.tso (answers (tsoVerdict f)) z)
 
-abbrev pub ChipText : Answer → List ℕ → Type 0
-ChipText a text = (x : List ℕ) × (text ≡ lineOf lines.chip a x)
+abbrev pub ChipText : List ℕ → List ℕ → Type 0
+ChipText f text = (x : List ℕ) × (text ≡ lineOf lines.chip (answers (armv8Verdict f)) x)
 
+-- What is printed of f, and what is printed of g, has these answers.
 pub record LinesAgree : Type 0 where
   pub on-source : (f g : List ℕ) → Renumbered f g → side f ≡ source → (text₁ text₂ : List ℕ) → Prints f text₁ → Prints g text₂
-      → (a b c : Answer) × SourceText a b c text₁ × SourceText a b c text₂
+      → SourceText f text₁ × SourceText f text₂
   pub on-chip : (f g : List ℕ) → Renumbered f g → side f ≡ chip → (text₁ text₂ : List ℕ) → Prints f text₁ → Prints g text₂
-      → (a : Answer) × ChipText a text₁ × ChipText a text₂
+      → ChipText f text₁ × ChipText f text₂
