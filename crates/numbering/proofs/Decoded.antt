@@ -21,7 +21,7 @@ use Rattle.recording.proofs.Accepted.{sized}
 use Rattle.recording.proofs.Loaded.{loaded-within}
 use Rattle.translation.specs.Contents.{contents}
 use Rattle.numbering.specs.Numbering.{Renumbering, numbersTo, Renumbered}
-use Rattle.numbering.proofs.Renumberings.{kept-in, same-number}
+use Rattle.numbering.proofs.Renumberings.{same-number, recorded-moved}
 use Rattle.numbering.proofs.Recordings.{renamed, verdict-renamed}
 
 module _ (f g : List ℕ) (w : Renumbered f g) where
@@ -39,8 +39,8 @@ module _ (f g : List ℕ) (w : Renumbered f g) where
   same-events = w .renumbers .events
 
   recorded-along : (e : ℕ) → isRecorded f e ≡ isRecorded g (to e)
-  unfolding isRecorded contents numbersTo
-  recorded-along e = sym (kept-in n e) ∙ ap (λ (m : ℕ). leb 1 (to e) && leb (to e) m) (sym same-events)
+  unfolding contents
+  recorded-along e = sym (recorded-moved f g n same-events e)
 
   -- An event keeps its number, or has a record before and after.
   data Moved (e : ℕ) : Type 0 where

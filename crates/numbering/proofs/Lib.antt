@@ -7,4 +7,5 @@ pub mod Equivalence
 pub mod Translations
 pub mod Files
 pub mod Printed
+pub mod Examples
 pub mod Proved

@@ -1,6 +1,7 @@
 -- Laws of renumberings.
 use mathlib.Core.Path.{_≡_, sym, ap, _∙_}
-use mathlib.Core.Bool.{true, false, false≢true}
+use mathlib.Core.Bool.{true, false, _&&_, false≢true}
+use mathlib.Core.List.{List}
 use mathlib.Core.Logic.{inl, inr}
 use Prim.Native.Nat.{ℕ, _<_, _≤_}
 use native.Mathlib.Omega.{arith}
@@ -9,7 +10,8 @@ use lib.Dec.{eqb, leb, ltb}
 use Rattle.relation.specs.Rel.{Set}
 use Rattle.relation.proofs.Truth.{is-false, same-test, by-test}
 use Rattle.relation.proofs.Meaning.{and-left, and-right, and-both}
-use Rattle.layout.specs.Layout.{threads}
+use Rattle.layout.specs.Layout.{events, threads}
+use Rattle.layout.specs.Decode.{isRecorded}
 use Rattle.translation.specs.Contents.{Contents}
 use Rattle.numbering.specs.Numbering.{Renumbering, numbersTo, Renumbers}
 
@@ -54,11 +56,16 @@ pub numbers-fewer : (m n : ℕ) → m ≤ n → (e : ℕ) → numbersTo n e ≡ 
 numbers-fewer m n h e p =
     is-false (numbersTo m e) (λ q. (let w = numbers-is m e q in false≢true (sym p ∙ numbers-intro n e (w .0) (omega (arith, w .1)))))
 
+-- The events of files.
+pub recorded-moved : (f g : List ℕ) (n : Renumbering (numbersTo (events f))) → events g ≡ events f → (e : ℕ) → isRecorded g (n .to e) ≡ isRecorded f e
+unfolding isRecorded numbersTo
+recorded-moved f g n same e = ap (λ (m : ℕ). leb 1 (n .to e) && leb (n .to e) m) same ∙ kept-in n e
+
 -- The threads.
 pub thread-within : (n : Renumbering (λ t. ltb t threads)) (t : ℕ) → t < threads → n .to t < threads
 thread-within n t h = ltb-true (n .to t) threads (kept-in n t ∙ lt-ltb t threads h)
 
--- The events.
+-- The events of contents.
 pub moved-within : {s c : Contents} (w : Renumbers s c) (e : ℕ) → 1 ≤ e → e ≤ s .events → (1 ≤ w .event .to e) × (w .event .to e ≤ c .events)
 moved-within {s} {c} w e h g =
     let p = numbers-is (s .events) (w .event .to e) (kept-in (w .event) e ∙ numbers-intro (s .events) e h g) in
