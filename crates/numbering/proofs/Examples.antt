@@ -1,9 +1,8 @@
 -- Two files that differ in their numbering only, so that the definition is not too narrow: 01's strong release pair before a write, and the
 -- same with other numbers of events and threads, links in another order, and two of them twice. What can be evaluated is.
-use mathlib.Core.Path.{_≡_, refl, sym, ap, _∙_}
-use mathlib.Core.Bool.{Bool, true, false, not, _&&_, _||_, false≢true}
+use mathlib.Core.Path.{_≡_, refl, sym, ap, ap₂, _∙_}
+use mathlib.Core.Bool.{Bool, true, _&&_, _||_}
 use mathlib.Core.List.{List, [], _∷_}
-use mathlib.Core.Logic.{inl, inr}
 use Prim.Native.Nat.{ℕ, _<_, _≤_}
 use native.Mathlib.Omega.{arith}
 use native.Mathlib.Decide.{decLt}
@@ -11,7 +10,7 @@ use borrow.Author.Tests.{eqb-true, eq-eqb}
 use lib.Dec.{eqb, ltb}
 use lib.ListN.{length, getD, List·getD-eq-default}
 use Rattle.relation.specs.Rel.{Set, some, below}
-use Rattle.relation.proofs.Truth.{same-test, by-test}
+use Rattle.relation.proofs.Truth.{same-test}
 use Rattle.relation.proofs.Meaning.{and-left, and-right, and-both, some-sound, some-complete, mem-below}
 use Rattle.models.specs.Rules.{first}
 use Rattle.layout.specs.Layout.{events, linkByte, threads}
@@ -25,17 +24,16 @@ use Rattle.translation.specs.Contents.{contents}
 use Rattle.litmus.specs.Table.{strongPair}
 use Rattle.litmus.proofs.EvaluatedLoading.{evaluated, passes-loads}
 use Rattle.numbering.specs.Numbering.{Renumbering, numbersTo, Renumbered}
-use Rattle.numbering.proofs.Renumberings.{injective, recorded-moved}
+use Rattle.numbering.proofs.Renumberings.{recorded-moved, within, reversed, numbers-fewer}
 
 -- Every number below n passes the test.
 abbrev Every : ℕ → (ℕ → Bool) → Type 0
-Every n p = some (below n) (λ x. not (p x)) ≡ false
+Every n p = allOf (below n) p ≡ true
 
 passes : (n : ℕ) (p : ℕ → Bool) → Every n p → (x : ℕ) → x < n → p x ≡ true
-passes n p none x h = elim (by-test (p x)) [
-  | inl q ↦ q
-  | inr q ↦ absurd (false≢true (sym none ∙ some-complete (below n) (λ y. not (p y)) x (mem-below n x h) (ap not q)))
-]
+passes n p all x h =
+    let (y, q, e) = all-of-some (below n) p (eqb x) all (some-complete (below n) (eqb x) x (mem-below n x h) (eq-eqb x x refl)) in
+    ap p (eqb-true x y e) ∙ q
 
 -- A renumbering by tables of new and old numbers, which have n; what is beyond them stays.
 unfoldable at : List ℕ → ℕ → ℕ
@@ -64,59 +62,45 @@ module _ (s : Set) (n : ℕ) (new old : List ℕ) (h : length new ≤ n) (g : le
     ];
   }
 
--- Each link into b of the one file is a link of the other, with the new number of its source.
+-- Each link into b of f is a link of g between the new numbers.
 module _ (f g : List ℕ) (to : ℕ → ℕ) where
   unfoldable matches : ℕ → ℕ → Bool
   matches m k = eqb (linkByte g k 1) (linkByte f m 1) && eqb (linkByte g k 2) (to (linkByte f m 2))
 
-  unfoldable sameLinks : ℕ → Bool
-  sameLinks b = allOf (linksInto f b) (λ m. some (linksInto g (to b)) (matches m)) && allOf (linksInto g (to b)) (λ k. some (linksInto f b) (λ m. matches m k))
+  unfoldable carried : ℕ → Bool
+  carried b = allOf (linksInto f b) (λ m. some (linksInto g (to b)) (matches m))
 
-module _ (f g : List ℕ) (n : Renumbering (numbersTo (events f))) (same : events g ≡ events f) (all : each (events f) (sameLinks f g (n .to)) ≡ true) where
+module _ (f g : List ℕ) (n : Renumbering (numbersTo (events f))) (same : events g ≡ events f) (all : each (events f) (carried f g (n .to)) ≡ true) where
   -- Link m of a file is of type t and comes from a.
   abbrev isFrom : List ℕ → ℕ → ℕ → ℕ → Bool
   isFrom x t a m = eqb (linkByte x m 1) t && eqb (linkByte x m 2) a
 
-  into : (b : ℕ) → isRecorded f b ≡ true → sameLinks f g (n .to) b ≡ true
-  into b p = (let w = recorded-bounds f b p in each-at (events f) (sameLinks f g (n .to)) all b (w .0) (w .1))
+  both-equal : (w x y z : ℕ) → eqb w x && eqb y z ≡ true → (w ≡ x) × (y ≡ z)
+  both-equal w x y z p = (eqb-true w x (and-left (eqb w x) (eqb y z) p), eqb-true y z (and-right (eqb w x) (eqb y z) p))
 
-  matched : (m k : ℕ) → matches f g (n .to) m k ≡ true → (linkByte g k 1 ≡ linkByte f m 1) × (linkByte g k 2 ≡ n .to (linkByte f m 2))
-  unfolding matches
-  matched m k p =
-      let x = eqb (linkByte g k 1) (linkByte f m 1) in
-      let y = eqb (linkByte g k 2) (n .to (linkByte f m 2)) in
-      (eqb-true _ _ (and-left x y p), eqb-true _ _ (and-right x y p))
-
-  is-from : (x : List ℕ) (t a m : ℕ) → isFrom x t a m ≡ true → (linkByte x m 1 ≡ t) × (linkByte x m 2 ≡ a)
-  is-from x t a m p = (let u = eqb (linkByte x m 1) t in let v = eqb (linkByte x m 2) a in (eqb-true _ _ (and-left u v p), eqb-true _ _ (and-right u v p)))
-
-  from-is : (x : List ℕ) (t a m : ℕ) → linkByte x m 1 ≡ t → linkByte x m 2 ≡ a → isFrom x t a m ≡ true
-  from-is x t a m p q = and-both (eqb (linkByte x m 1) t) (eqb (linkByte x m 2) a) (eq-eqb (linkByte x m 1) t p) (eq-eqb (linkByte x m 2) a q)
-
-  there : (t a b : ℕ) → decode f .link t a b ≡ true → decode g .link t (n .to a) (n .to b) ≡ true
-  unfolding decode sameLinks
-  there t a b p =
+  links-there : (t a b : ℕ) → decode f .link t a b ≡ true → decode g .link t (n .to a) (n .to b) ≡ true
+  unfolding decode matches carried
+  links-there t a b p =
       let r = and-left (isRecorded f b) (some (linksInto f b) (isFrom f t a)) p in
+      let h = recorded-bounds f b r in
       let l = linksInto g (n .to b) in
-      let (m, q, e) = all-of-some (linksInto f b) (λ m. some l (matches f g (n .to) m)) (isFrom f t a) (and-left (allOf (linksInto f b) (λ m. some l (matches f g (n .to) m))) _ (into b r)) (and-right (isRecorded f b) (some (linksInto f b) (isFrom f t a)) p) in
+      let (m, q, e) = all-of-some (linksInto f b) (λ m. some l (matches f g (n .to) m)) (isFrom f t a) (each-at (events f) (carried f g (n .to)) all b (h .0) (h .1)) (and-right (isRecorded f b) (some (linksInto f b) (isFrom f t a)) p) in
       let (k, i, d) = some-sound l (matches f g (n .to) m) q in
-      let (u, v) = is-from f t a m e in
-      let (x, y) = matched m k d in
-      and-both (isRecorded g (n .to b)) (some l (isFrom g t (n .to a))) (recorded-moved f g n same b ∙ r) (some-complete l (isFrom g t (n .to a)) k i (from-is g t (n .to a) k (x ∙ u) (y ∙ ap (n .to) v)))
+      let (u, v) = both-equal (linkByte f m 1) t (linkByte f m 2) a e in
+      let (x, y) = both-equal (linkByte g k 1) (linkByte f m 1) (linkByte g k 2) (n .to (linkByte f m 2)) d in
+      let found = and-both (eqb (linkByte g k 1) t) (eqb (linkByte g k 2) (n .to a)) (eq-eqb _ _ (x ∙ u)) (eq-eqb _ _ (y ∙ ap (n .to) v)) in
+      and-both (isRecorded g (n .to b)) (some l (isFrom g t (n .to a))) (recorded-moved f g n same b ∙ r) (some-complete l (isFrom g t (n .to a)) k i found)
 
-  back : (t a b : ℕ) → decode g .link t (n .to a) (n .to b) ≡ true → decode f .link t a b ≡ true
-  unfolding decode sameLinks
-  back t a b p =
-      let l = linksInto g (n .to b) in
-      let r = sym (recorded-moved f g n same b) ∙ and-left (isRecorded g (n .to b)) (some l (isFrom g t (n .to a))) p in
-      let (k, q, e) = all-of-some l (λ k. some (linksInto f b) (λ m. matches f g (n .to) m k)) (isFrom g t (n .to a)) (and-right (allOf (linksInto f b) (λ m. some l (matches f g (n .to) m))) _ (into b r)) (and-right (isRecorded g (n .to b)) (some l (isFrom g t (n .to a))) p) in
-      let (m, i, d) = some-sound (linksInto f b) (λ m. matches f g (n .to) m k) q in
-      let (u, v) = is-from g t (n .to a) k e in
-      let (x, y) = matched m k d in
-      and-both (isRecorded f b) (some (linksInto f b) (isFrom f t a)) r (some-complete (linksInto f b) (isFrom f t a) m i (from-is f t a m (sym x ∙ u) (injective n _ a (sym y ∙ v))))
-
-  links-same : (t a b : ℕ) → decode g .link t (n .to a) (n .to b) ≡ decode f .link t a b
-  links-same t a b = same-test _ _ (back t a b) (there t a b)
+-- Both ways.
+links-same : (f g : List ℕ) (n : Renumbering (numbersTo (events f))) → events g ≡ events f
+    → each (events f) (carried f g (n .to)) ≡ true → each (events g) (carried g f (n .back)) ≡ true
+    → (t a b : ℕ) → decode g .link t (n .to a) (n .to b) ≡ decode f .link t a b
+unfolding within reversed
+links-same f g n same there back t a b =
+    let m = within (reversed n) (numbersTo (events g)) (numbers-fewer (events f) (events g) (omega (arith, same))) in
+    same-test _ _
+    (λ p. sym (ap₂ (decode f .link t) (n .back-to a) (n .back-to b)) ∙ links-there g f m (sym same) back t (n .to a) (n .to b) p)
+    (links-there f g n same there t a b)
 
 -- The same number of each of n records.
 field-same : (n : ℕ) (p q : ℕ → ℕ) → each n (λ e. eqb (q e) (p e)) ≡ true → (e : ℕ) → 1 ≤ e → e ≤ n → q e ≡ p e
@@ -160,15 +144,15 @@ unfolding first evaluated other
 other-loads = passes-loads other refl
 
 numbers : Renumbering (numbersTo (events one))
-unfolding at numbersTo some below strongPair newNumbers
+unfolding at numbersTo allOf below strongPair newNumbers
 numbers = tabled (numbersTo (events one)) 7 newNumbers (0 ∷ 3 ∷ 1 ∷ 4 ∷ 6 ∷ 5 ∷ 2 ∷ []) (omega arith) (omega arith) refl refl refl
 
 threads-moved : Renumbering (λ t. ltb t threads)
-unfolding at some below newThreads
+unfolding at allOf below newThreads
 threads-moved = tabled (λ t. ltb t threads) 4 newThreads (3 ∷ 0 ∷ 2 ∷ 1 ∷ []) (omega arith) (omega arith) refl refl refl
 
 pub example : Renumbered one other
-unfolding contents numbers threads-moved tabled at each allOf some matches sameLinks follow nextOf startOf strongPair other newNumbers newThreads
+unfolding contents numbers threads-moved tabled at each allOf below some matches carried follow nextOf startOf strongPair other newNumbers newThreads
 example = record {
   loads = one-loads;
   loads-too = other-loads;
@@ -186,6 +170,6 @@ example = record {
     location = field-same 6 (contents one .location) (λ e. contents other .location (at newNumbers e)) refl;
     low = field-same 6 (contents one .low) (λ e. contents other .low (at newNumbers e)) refl;
     high = field-same 6 (contents one .high) (λ e. contents other .high (at newNumbers e)) refl;
-    link = links-same one other numbers refl refl;
+    link = links-same one other numbers refl refl refl;
   };
 }

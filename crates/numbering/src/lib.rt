@@ -1,1 +1,1 @@
-// Numbering: no code, only the statement (specs/Numbering.antt) and its proof.
+// Numbering: no code, only the statements (specs/Numbering.antt, specs/Answers.antt) and their proofs.
