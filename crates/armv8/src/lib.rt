@@ -2,6 +2,7 @@
 
 pub mod file;
 mod ob;
+pub mod why;
 
 use relation::grid;
 use verdict::Verdict;

@@ -7,25 +7,19 @@ use relation::row::Row;
 use verdict::base;
 use verdict::base::Relations;
 use verdict::base::Sets;
+use verdict::clause;
+use verdict::clause::Clauses;
 ghost use mathlib.Core.Path.{_≡_};
 ghost use Rattle.relation.specs.Rel.{nodes};
 ghost use Rattle.relation.specs.Bits.{bit, edge};
 ghost use Rattle.models.specs.Recording.{R, W, Racq, Wrel, Fld, Fsy, Fisb};
 ghost use Rattle.models.specs.Graph.{Base};
-ghost use Rattle.models.specs.Term.{eval, ⟨_⟩, _⨾_, _∪_, rfₑ, rfᵢ, coₑ, coᵢ, frₑ};
-ghost use Rattle.models.specs.Term as term;
+ghost use Rattle.models.specs.Term.{eval, rfᵢ, coₑ, coᵢ, frₑ};
 ghost use Rattle.models.specs.Armv8 as armv8;
 ghost use Rattle.verdict.specs.Base.{baseOf};
+ghost use Rattle.verdict.specs.Steps.{Held};
 
-// obs = rfe ∪ fre ∪ coe
-fn obs(rfe: Grid, fre: Grid, coe: Grid) -> Grid
-    ensures { λ r. ⌜ ((B : Base) → edge rfe ≡ eval nodes rfₑ B → edge fre ≡ eval nodes frₑ B → edge «coe» ≡ eval nodes coₑ B
-        → edge r ≡ eval nodes armv8.obs B) ⌝ }
-{
-    grid::or(grid::or(rfe, fre), coe)
-}
-
-// dob = (addr ∪ data) ; rfi? ∪ (ctrl ∪ data) ; [W] ; coi? ∪ addr ; po ; [W] ∪ (ctrl ∪ addr ; po) ; [Fisb] ; po ; [R]
+// The clauses of dob: (addr ∪ data) ; rfi?, (ctrl ∪ data) ; [W] ; coi?, addr ; po ; [W], (ctrl ∪ addr ; po) ; [Fisb] ; po ; [R]
 fn dob(
     events: Row,
     reads: Row,
@@ -37,11 +31,11 @@ fn dob(
     ctrl: Grid,
     rfi: Grid,
     coi: Grid,
-) -> Grid
+) -> [Grid; 4]
     ensures { λ r. ⌜ ((B : Base) → bit events ≡ B .E → bit reads ≡ B .set R → bit writes ≡ B .set W → bit fisb ≡ B .set Fisb
         → edge po ≡ B .po → edge «data» ≡ B .«data» → edge addr ≡ B .addr → edge ctrl ≡ B .ctrl
         → edge rfi ≡ eval nodes rfᵢ B → edge coi ≡ eval nodes coᵢ B
-        → edge r ≡ eval nodes armv8.dob B) ⌝ }
+        → Held 4 armv8.dobClauses B r) ⌝ }
 {
     let read = grid::then(grid::or(addr, data), grid::optional(rfi, events));
     let write = grid::then(
@@ -53,31 +47,19 @@ fn dob(
         grid::into(grid::or(ctrl, later), fisb),
         grid::into(po, reads),
     );
-    grid::or(
-        grid::or(grid::or(read, write), grid::into(later, writes)),
-        barrier,
-    )
+    [read, write, grid::into(later, writes), barrier]
 }
 
-// aob = rmw ∪ [codom(rmw)] ; rfi ; [Racq]
-fn aob(events: Row, racq: Row, rmw: Grid, rfi: Grid) -> Grid
+// The clauses of aob: rmw, [codom(rmw)] ; rfi ; [Racq]
+fn aob(events: Row, racq: Row, rmw: Grid, rfi: Grid) -> [Grid; 2]
     ensures { λ r. ⌜ ((B : Base) → bit events ≡ B .E → bit racq ≡ B .set Racq → edge rmw ≡ B .rmw → edge rfi ≡ eval nodes rfᵢ B
-        → edge r ≡ eval nodes armv8.aob B) ⌝ }
+        → Held 2 armv8.aobClauses B r) ⌝ }
 {
     let exclusive = grid::image(events, rmw);
-    grid::or(rmw, grid::from(exclusive, grid::into(rfi, racq)))
+    [rmw, grid::from(exclusive, grid::into(rfi, racq))]
 }
 
-// po ; [Fsy] ; po ∪ [R] ; po ; [Fld] ; po, what bob has of fences
-fn fenced(reads: Row, fld: Row, fsy: Row, po: Grid) -> Grid
-    ensures { λ r. ⌜ ((B : Base) → bit reads ≡ B .set R → bit fld ≡ B .set Fld → bit fsy ≡ B .set Fsy → edge po ≡ B .po
-        → edge r ≡ eval nodes (term.po ⨾ ⟨ Fsy ⟩ ⨾ term.po ∪ ⟨ R ⟩ ⨾ term.po ⨾ ⟨ Fld ⟩ ⨾ term.po) B) ⌝ }
-{
-    let load = grid::from(reads, grid::into(po, fld));
-    grid::then(grid::or(grid::into(po, fsy), load), po)
-}
-
-// bob = po ; [Fsy] ; po ∪ [R] ; po ; [Fld] ; po ∪ [Racq] ; po ∪ po ; [Wrel] ; coi? ∪ [Wrel] ; po ; [Racq]
+// The clauses of bob: po ; [Fsy] ; po, [R] ; po ; [Fld] ; po, [Racq] ; po, po ; [Wrel] ; coi?, [Wrel] ; po ; [Racq]
 fn bob(
     events: Row,
     reads: Row,
@@ -87,31 +69,41 @@ fn bob(
     fsy: Row,
     po: Grid,
     coi: Grid,
-) -> Grid
+) -> [Grid; 5]
     ensures { λ r. ⌜ ((B : Base) → bit events ≡ B .E → bit reads ≡ B .set R → bit racq ≡ B .set Racq → bit wrel ≡ B .set Wrel
         → bit fld ≡ B .set Fld → bit fsy ≡ B .set Fsy → edge po ≡ B .po → edge coi ≡ eval nodes coᵢ B
-        → edge r ≡ eval nodes armv8.bob B) ⌝ }
+        → Held 5 armv8.bobClauses B r) ⌝ }
 {
-    let across = fenced(reads, fld, fsy, po);
+    let full = grid::then(grid::into(po, fsy), po);
+    let load = grid::from(reads, grid::then(grid::into(po, fld), po));
     let release = grid::then(grid::into(po, wrel), grid::optional(coi, events));
-    let acquire = grid::or(grid::or(across, grid::from(racq, po)), release);
-    grid::or(acquire, grid::from(wrel, grid::into(po, racq)))
+    [
+        full,
+        load,
+        grid::from(racq, po),
+        release,
+        grid::from(wrel, grid::into(po, racq)),
+    ]
 }
 
-// ob = obs ∪ dob ∪ aob ∪ bob
-pub fn ob(sets: Sets, relations: Relations, fre: Grid, coe: Grid) -> Grid
+// The clauses of ob: those of obs, dob, aob and bob.
+pub fn clauses(sets: Sets, relations: Relations, fre: Grid, coe: Grid) -> Clauses
     ensures { λ r. ⌜ (let B : Base = baseOf sets relations in
         edge fre ≡ eval nodes frₑ B → edge «coe» ≡ eval nodes coₑ B
-        → edge r ≡ eval nodes armv8.ob B) ⌝ }
+        → Held 14 armv8.obClauses B r) ⌝ }
 {
     let po = relations[base::PO];
     let rf = relations[base::RF];
+    let rmw = relations[base::RMW];
+    let rfe = grid::minus(rf, po);
     let rfi = grid::and(rf, po);
     let coi = grid::and(relations[base::CO], po);
-    let obs = obs(grid::minus(rf, po), fre, coe);
-    let dob = dob(
-        sets[base::EVENTS],
-        sets[base::READS],
+    let events = sets[base::EVENTS];
+    let reads = sets[base::READS];
+    let racq = sets[base::RACQ];
+    let d = dob(
+        events,
+        reads,
         sets[base::WRITES],
         sets[base::FISB],
         po,
@@ -121,21 +113,40 @@ pub fn ob(sets: Sets, relations: Relations, fre: Grid, coe: Grid) -> Grid
         rfi,
         coi,
     );
-    let aob = aob(
-        sets[base::EVENTS],
-        sets[base::RACQ],
-        relations[base::RMW],
-        rfi,
-    );
-    let bob = bob(
-        sets[base::EVENTS],
-        sets[base::READS],
-        sets[base::RACQ],
+    let a = aob(events, racq, rmw, rfi);
+    let b = bob(
+        events,
+        reads,
+        racq,
         sets[base::WREL],
         sets[base::FLD],
         sets[base::FSY],
         po,
         coi,
     );
-    grid::or(grid::or(grid::or(obs, dob), aob), bob)
+    [
+        rfe,
+        fre,
+        coe,
+        d[0],
+        d[1],
+        d[2],
+        d[3],
+        a[0],
+        a[1],
+        b[0],
+        b[1],
+        b[2],
+        b[3],
+        b[4],
+    ]
+}
+
+// ob = obs ∪ dob ∪ aob ∪ bob
+pub fn ob(sets: Sets, relations: Relations, fre: Grid, coe: Grid) -> Grid
+    ensures { λ r. ⌜ (let B : Base = baseOf sets relations in
+        edge fre ≡ eval nodes frₑ B → edge «coe» ≡ eval nodes coₑ B
+        → edge r ≡ eval nodes armv8.ob B) ⌝ }
+{
+    clause::union(clauses(sets, relations, fre, coe))
 }

@@ -14,12 +14,14 @@ use Rattle.recording.specs.Causes.{refusal}
 use Rattle.recording.specs.Load.{causeFor}
 use Rattle.reading.specs.Sets.{LinkRows}
 use Rattle.models.specs.Rules.{Model, verdict}
+use Rattle.models.specs.Clause.{Clause}
 use Rattle.models.proofs.Agree.{recording-verdict}
 use Rattle.recording.proofs.CauseLaws.{cause-own}
 use Rattle.recording.proofs.Loaded.{loaded-within}
 use Rattle.verdict.specs.Answer.{refuses, answers}
 use Rattle.verdict.specs.declared.Verdict.{Verdict}
 use Rattle.verdict.specs.Base.{baseOf}
+use Rattle.verdict.specs.Steps.{StepsBy}
 use Rattle.execution.specs.Arrays.{SetsOf, RelationsOf}
 use Rattle.execution.specs.OnFile.{OnRecording, OnFile}
 
@@ -77,3 +79,8 @@ module _ (M : Model) (Judged : Base → Verdict → Type 0) (f : List ℕ) (v : 
           refused = λ m e. absurd (let q : suc m ≡ 0 = sym e ∙ sym cause ∙ z in omega arith);
           judged = λ l. on;
         }
+
+-- Steps over the arrays of a recording are those over its base.
+pub steps-by-base : (cs : List Clause) (r : Recording ℕ) (v : Verdict) (found : List (List ℕ)) (sets : List (List ℕ)) (relations : List (List (List ℕ)))
+    → SetsOf r sets → RelationsOf (base nodes r) relations → StepsBy cs (baseOf sets relations) v found → StepsBy cs (base nodes r) v found
+steps-by-base cs r v found sets relations s t w = subst (λ (B : Base). StepsBy cs B v found) (base-of r sets relations s t) w

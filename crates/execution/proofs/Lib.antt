@@ -2,3 +2,4 @@
 pub mod BaseOf
 pub mod AllShown
 pub mod PerLocationShown
+pub mod PerLocationExplains

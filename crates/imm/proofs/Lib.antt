@@ -2,3 +2,4 @@
 pub mod Around
 pub mod ImmShowsAll
 pub mod ImmShowsFewest
+pub mod ImmExplains

@@ -7,6 +7,8 @@ use relation::row::Row;
 use verdict::base;
 use verdict::base::Relations;
 use verdict::base::Sets;
+use verdict::clause;
+use verdict::clause::Clauses;
 ghost use mathlib.Core.Path.{_≡_};
 ghost use Rattle.relation.specs.Rel.{nodes};
 ghost use Rattle.relation.specs.Bits.{bit, edge};
@@ -15,18 +17,20 @@ ghost use Rattle.models.specs.Graph.{Base};
 ghost use Rattle.models.specs.Term.{eval, po-loc, rfₑ, rfᵢ, coₑ};
 ghost use Rattle.models.specs.Imm as imm;
 ghost use Rattle.verdict.specs.Base.{baseOf};
+ghost use Rattle.verdict.specs.Steps.{Held};
 
-// bob = po ; [Wrel] ∪ [Racq] ; po ∪ po ; [F] ∪ [F] ; po ∪ [Wrel] ; po-loc ; [W]
-fn bob(writes: Row, fences: Row, racq: Row, wrel: Row, po: Grid, poloc: Grid) -> Grid
+// The clauses of bob: po ; [Wrel], [Racq] ; po, po ; [F], [F] ; po, [Wrel] ; po-loc ; [W]
+fn bob(writes: Row, fences: Row, racq: Row, wrel: Row, po: Grid, poloc: Grid) -> [Grid; 5]
     ensures { λ r. ⌜ ((B : Base) → bit writes ≡ B .set W → bit fences ≡ B .set F → bit racq ≡ B .set Racq → bit wrel ≡ B .set Wrel
-        → edge po ≡ B .po → edge poloc ≡ eval nodes po-loc B → edge r ≡ eval nodes imm.bob B) ⌝ }
+        → edge po ≡ B .po → edge poloc ≡ eval nodes po-loc B → Held 5 imm.bobClauses B r) ⌝ }
 {
-    let access = grid::or(grid::into(po, wrel), grid::from(racq, po));
-    let fence = grid::or(
-        grid::or(access, grid::into(po, fences)),
+    [
+        grid::into(po, wrel),
+        grid::from(racq, po),
+        grid::into(po, fences),
         grid::from(fences, po),
-    );
-    grid::or(fence, grid::from(wrel, grid::into(poloc, writes)))
+        grid::from(wrel, grid::into(poloc, writes)),
+    ]
 }
 
 // deps = data ∪ ctrl ∪ addr ; po? ∪ casdep ∪ [Rex] ; po
@@ -71,6 +75,56 @@ fn psc(fsc: Row, hb: Grid, eco: Grid) -> Grid
     grid::then(grid::from(fsc, hb), last)
 }
 
+// The clauses of ar: rfe, those of bob, ppo, detour, psc, [Wstrong] ; po ; [W]
+pub fn clauses(
+    sets: Sets,
+    relations: Relations,
+    poloc: Grid,
+    rfe: Grid,
+    rfi: Grid,
+    coe: Grid,
+    hb: Grid,
+    eco: Grid,
+) -> Clauses
+    ensures { λ r. ⌜ (let B : Base = baseOf sets relations in
+        edge poloc ≡ eval nodes po-loc B → edge rfe ≡ eval nodes rfₑ B → edge rfi ≡ eval nodes rfᵢ B → edge «coe» ≡ eval nodes coₑ B
+        → edge hb ≡ eval nodes imm.hb B → edge eco ≡ eval nodes imm.eco B
+        → Held 14 imm.arClauses B r) ⌝ }
+{
+    let po = relations[base::PO];
+    let writes = sets[base::WRITES];
+    let b = bob(
+        writes,
+        sets[base::FENCES],
+        sets[base::RACQ],
+        sets[base::WREL],
+        po,
+        poloc,
+    );
+    let deps = deps(sets, relations);
+    let ppo = ppo(sets[base::READS], writes, rfi, deps);
+    let detour = detour(po, rfe, coe);
+    let psc = psc(sets[base::FSC], hb, eco);
+    let strong = grid::from(sets[base::WSTRONG], grid::into(po, writes));
+    let none = grid::empty();
+    [
+        rfe,
+        b[0],
+        b[1],
+        b[2],
+        b[3],
+        b[4],
+        ppo,
+        detour,
+        psc,
+        strong,
+        none,
+        none,
+        none,
+        none,
+    ]
+}
+
 // ar = rfe ∪ bob ∪ ppo ∪ detour ∪ psc ∪ [Wstrong] ; po ; [W]
 pub fn ar(
     sets: Sets,
@@ -87,21 +141,5 @@ pub fn ar(
         → edge hb ≡ eval nodes imm.hb B → edge eco ≡ eval nodes imm.eco B
         → edge r ≡ eval nodes imm.ar B) ⌝ }
 {
-    let po = relations[base::PO];
-    let writes = sets[base::WRITES];
-    let bob = bob(
-        writes,
-        sets[base::FENCES],
-        sets[base::RACQ],
-        sets[base::WREL],
-        po,
-        poloc,
-    );
-    let deps = deps(sets, relations);
-    let ppo = ppo(sets[base::READS], writes, rfi, deps);
-    let detour = detour(po, rfe, coe);
-    let psc = psc(sets[base::FSC], hb, eco);
-    let strong = grid::from(sets[base::WSTRONG], grid::into(po, writes));
-    let barriers = grid::or(grid::or(rfe, bob), ppo);
-    grid::or(grid::or(grid::or(barriers, detour), psc), strong)
+    clause::union(clauses(sets, relations, poloc, rfe, rfi, coe, hb, eco))
 }

@@ -56,11 +56,11 @@ fn sw(
     grid::then(release, grid::then(read, end))
 }
 
-// po ∪ sw, the steps of hb
-pub fn steps(sets: Sets, relations: Relations, poloc: Grid, rfe: Grid, rfi: Grid) -> Grid
+// sw of a base
+pub fn synchronizes(sets: Sets, relations: Relations, poloc: Grid, rfe: Grid, rfi: Grid) -> Grid
     ensures { λ r. ⌜ (let B : Base = baseOf sets relations in
         edge poloc ≡ eval nodes po-loc B → edge rfe ≡ eval nodes rfₑ B → edge rfi ≡ eval nodes rfᵢ B
-        → edge r ≡ eval nodes (term.po ∪ imm.sw) B) ⌝ }
+        → edge r ≡ eval nodes imm.sw B) ⌝ }
 {
     let po = relations[base::PO];
     let rs = rs(
@@ -71,7 +71,7 @@ pub fn steps(sets: Sets, relations: Relations, poloc: Grid, rfe: Grid, rfi: Grid
         relations[base::RMW],
     );
     let release = release(sets[base::WREL], sets[base::FREL], po, rs);
-    let sw = sw(
+    sw(
         sets[base::EVENTS],
         sets[base::RACQ],
         sets[base::FACQ],
@@ -80,8 +80,17 @@ pub fn steps(sets: Sets, relations: Relations, poloc: Grid, rfe: Grid, rfi: Grid
         rfe,
         rfi,
         release,
-    );
-    grid::or(po, sw)
+    )
+}
+
+// po ∪ sw, the steps of hb
+pub fn steps(sets: Sets, relations: Relations, poloc: Grid, rfe: Grid, rfi: Grid) -> Grid
+    ensures { λ r. ⌜ (let B : Base = baseOf sets relations in
+        edge poloc ≡ eval nodes po-loc B → edge rfe ≡ eval nodes rfₑ B → edge rfi ≡ eval nodes rfᵢ B
+        → edge r ≡ eval nodes (term.po ∪ imm.sw) B) ⌝ }
+{
+    let sw = synchronizes(sets, relations, poloc, rfe, rfi);
+    grid::or(relations[base::PO], sw)
 }
 
 // eco = rf ∪ co ; rf? ∪ fr ; rf?

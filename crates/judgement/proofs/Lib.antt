@@ -3,3 +3,4 @@ pub mod ChipLaws
 pub mod PrintLaws
 pub mod TextLaws
 pub mod PageLaws
+pub mod WhyLaws

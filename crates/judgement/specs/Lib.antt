@@ -1,2 +1,3 @@
 -- The definitions that the contracts of `judgement` cite.
 pub mod Judgement
+pub mod Why

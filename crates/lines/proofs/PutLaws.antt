@@ -35,7 +35,7 @@ put-then {t} {u} {r} {l} {m} p q =
       bound = q .bound;
     }
 
-put-as : {t r : Text} {l m : List ℕ} → l ≡ m → Put t l r → Put t m r
+pub put-as : {t r : Text} {l m : List ℕ} → l ≡ m → Put t l r → Put t m r
 put-as {t} {r} e p = subst (λ (k : List ℕ). Put t k r) e p
 
 -- Behind no bytes only what is put stands.

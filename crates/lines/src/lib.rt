@@ -1,6 +1,8 @@
 // The lines that the judge prints, as bytes: a line is made in a text.
 // The line is that of specs/Lines.antt; nothing is assumed of a verdict but that it shows at most 64 events.
 
+pub mod step;
+
 use verdict::Answer;
 use verdict::Verdict;
 ghost use mathlib.Core.Path.{_≡_};

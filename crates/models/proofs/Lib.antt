@@ -4,6 +4,7 @@ pub mod Tests
 pub mod MemberLaws
 pub mod FirstLaws
 pub mod Agree
+pub mod ClauseLaws
 pub mod EvalTable
 pub mod Formed
 pub mod Location

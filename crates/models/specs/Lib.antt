@@ -3,9 +3,11 @@ pub mod Recording
 pub mod Steps
 pub mod Graph
 pub mod Term
+pub mod Clause
 pub mod Imm
 pub mod Armv8
 pub mod Tso
 pub mod Rules
+pub mod Why
 pub mod Loads
 pub mod Translated

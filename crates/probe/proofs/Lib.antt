@@ -1,2 +1,3 @@
 -- Laws that the proofs of `probe` share.
 pub mod ProbeLaws
+pub mod WhyLaws

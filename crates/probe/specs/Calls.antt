@@ -1,15 +1,23 @@
 -- What the calls answer, as numbers, and what they leave of an output.
 use mathlib.Core.Path.{_≡_}
-use mathlib.Core.List.{List}
-use Prim.Native.Nat.{ℕ, _+_, _*_}
-use lib.ListN.{length}
+use mathlib.Core.List.{List, [], _∷_}
+use Prim.Native.Nat.{ℕ, zero, suc, _+_, _*_}
+use lib.ListN.{length, getD}
 use Rattle.models.specs.Graph.{Base}
-use Rattle.models.specs.Rules.{Model}
-use Rattle.layout.specs.Layout.{Side}
+use Rattle.models.specs.Rules.{Model, IMM, ARMv8, TSO}
+use Rattle.models.specs.Why.{Clauses, clausesOf, immClauses, armv8Clauses, tsoRingClauses}
+use Rattle.layout.specs.Layout.{Side, source, chip}
+use Rattle.layout.specs.Decode.{decode}
+use Rattle.recording.specs.Causes.{refusal}
+use Rattle.recording.specs.Load.{LoadsAs}
 use Rattle.verdict.specs.declared.Verdict.{Verdict}
 use Rattle.verdict.specs.Answer.{refusalOf, ruleOf}
 use Rattle.verdict.specs.Shown.{events}
+use Rattle.verdict.specs.Steps.{ring, Explained}
 use Rattle.execution.specs.OnFile.{OnFile}
+use Rattle.imm.specs.Judged as imm
+use Rattle.armv8.specs.Judged as armv8
+use Rattle.tso.specs.Judged as tso
 use Rattle.output.specs.Output.{answerOf, leftOf}
 use Rattle.output.specs.declared.Filled.{Filled}
 use Rattle.output.specs.declared.Filled.the-variants.{Refused, Written}
@@ -46,3 +54,28 @@ pub record Printed (f out : List ℕ) (r : ℕ) (left : List ℕ) : Type 0 where
   pub text : List ℕ
   pub prints : Prints f text
   pub stored : Stored 0 0 text out r left
+
+-- The three numbers of each step, one step behind the other.
+abbrev pub bytesOf : List (List ℕ) → List ℕ
+bytesOf [] = []
+bytesOf (s ∷ steps) = getD s 0 0 ∷ getD s 1 0 ∷ getD s 2 0 ∷ bytesOf steps
+
+-- The steps of the ring that the verdict of the model M on the file f shows, three bytes each, go to the output: an event, the one after it, and
+-- the number of the first clause of C, for the broken rule, that relates the two. Where rule 3 or 5 is not broken there is no step.
+pub record Explains (s : Side) (M : Model) (C : Clauses) (Judged : Base → Verdict → Type 0) (f out : List ℕ) (r : ℕ) (left : List ℕ) : Type 0 where
+  pub verdict : Verdict
+  pub on-file : OnFile s M Judged f verdict
+  pub steps : List (List ℕ)
+  pub explained : LoadsAs s f → Explained (clausesOf C (ruleOf (verdict .answer))) (decode f) (ring verdict) steps
+  pub stored : Stored (refusalOf (verdict .answer)) (ruleOf (verdict .answer)) (bytesOf steps) out r left
+
+-- The number of the refusal where no model is meant: as loading gives it, and 11 for a file that loads.
+unfoldable pub causeForNone : List ℕ → ℕ
+causeForNone f = elim (refusal f) [ zero ↦ 11 | suc n ↦ suc n ]
+
+-- The models by number: 1 IMM, 2 ARMv8, 3 x86-TSO.
+pub record Why (model : ℕ) (f out : List ℕ) (r : ℕ) (left : List ℕ) : Type 0 where
+  pub imm : model ≡ 1 → Explains source IMM immClauses imm.Judged f out r left
+  pub armv8 : model ≡ 2 → Explains chip ARMv8 armv8Clauses armv8.Judged f out r left
+  pub tso : model ≡ 3 → Explains source TSO tsoRingClauses tso.Judged f out r left
+  pub other : (model ≡ 1 → ⊥) → (model ≡ 2 → ⊥) → (model ≡ 3 → ⊥) → Stored (causeForNone f) 0 [] out r left

@@ -1,6 +1,8 @@
 // The probe's library: the calls that it offers to firmware, on numbers and slices, with C names and no condition on their arguments.
 // Every answer has one coding, `coded` of specs/Calls.antt.
 
+mod why;
+
 use output::Filled;
 use recording::causes;
 use verdict::Answer;
@@ -19,7 +21,7 @@ ghost use Rattle.verdict.specs.Answer.{refusalOf, ruleOf};
 ghost use Rattle.output.specs.declared.Filled.the-variants.{Written};
 ghost use Rattle.translation.specs.Translation.{translation};
 ghost use Rattle.printout.specs.Page.{page};
-ghost use Rattle.probe.specs.Calls.{coded, codedAnswer, Stored, Reported, Reports, Printed};
+ghost use Rattle.probe.specs.Calls.{coded, codedAnswer, Stored, Reported, Reports, Printed, Why};
 
 // An answer: the number of the refusal, that of the broken rule, and how many bytes were written.
 fn coded(cause: u8, rule: u8, written: usize) -> u64
@@ -130,4 +132,22 @@ pub extern "C" fn probe_judge(file: &[u8], out: &mut [u8]) -> u64
     let at = lines.at;
     let n = lines.len;
     answered(0, output::fill(out, &at[..n]))
+}
+
+// The clause behind each step of the ring that the verdict of a model shows, 1 IMM, 2 ARMv8, 3 x86-TSO: at most 192 bytes. Refused with a
+// number, 1 to 13, the output stays as it was.
+#[no_mangle]
+pub extern "C" fn probe_why(file: &[u8], model: u64, out: &mut [u8]) -> u64
+    ensures { λ r. ⌜ Why model (now (file .entry)) (now (out .entry)) r (now (out .exit)) ⌝ }
+{
+    if model == 1 {
+        return why::of_imm(file, out);
+    }
+    if model == 2 {
+        return why::of_armv8(file, out);
+    }
+    if model == 3 {
+        return why::of_tso(file, out);
+    }
+    why::of_none(file, out)
 }

@@ -1,3 +1,4 @@
 -- The theorems of `tso`.
 pub mod TsoShowsAll
 pub mod TsoShowsFewest
+pub mod TsoExplains

@@ -1,13 +1,19 @@
 // The x86-TSO verdict on a file's bytes.
 
 use crate::judge;
+use crate::why::why;
 use layout::kind;
 use recording::causes;
 use verdict::Verdict;
+use verdict::clause::Steps;
+ghost use lib.ListN.{length, take};
 ghost use Rattle.models.specs.Rules.{TSO};
+ghost use Rattle.models.specs.Why.{clausesOf, tsoRingClauses};
 ghost use Rattle.layout.specs.Layout.{source};
 ghost use Rattle.layout.specs.Decode.{decode};
 ghost use Rattle.recording.specs.Load.{LoadsAs};
+ghost use Rattle.verdict.specs.Answer.{ruleOf};
+ghost use Rattle.verdict.specs.Steps.{ring, Explained};
 ghost use Rattle.execution.specs.OnFile.{OnRecording, OnFile};
 ghost use Rattle.tso.specs.Judged.{Judged};
 
@@ -29,4 +35,12 @@ pub fn loaded(file: &[u8]) -> Verdict
     ensures { λ r. ⌜ OnRecording TSO Judged (decode (now (file .entry))) r ⌝ }
 {
     judge(execution::sets(file), execution::relations(file))
+}
+
+// The steps of the ring that the verdict on a source recording shows, each with the number of its clause.
+pub fn explained(file: &[u8], v: Verdict) -> Steps
+    requires { ⌜ LoadsAs source (now file) × OnRecording TSO Judged (decode (now file)) v ⌝ }
+    ensures { λ r. ⌜ Explained (clausesOf tsoRingClauses (ruleOf (v .answer))) (decode (now (file .entry))) (ring v) (take (length (ring v)) r) ⌝ }
+{
+    why(execution::sets(file), execution::relations(file), v)
 }

@@ -8,6 +8,8 @@ use relation::row::Row;
 use verdict::base;
 use verdict::base::Relations;
 use verdict::base::Sets;
+use verdict::clause;
+use verdict::clause::Clauses;
 ghost use mathlib.Core.Path.{_≡_};
 ghost use Rattle.relation.specs.Rel.{identity, nodes};
 ghost use Rattle.relation.specs.Bits.{bit, edge};
@@ -17,14 +19,15 @@ ghost use Rattle.models.specs.Term.{eval};
 ghost use Rattle.models.specs.Term as term;
 ghost use Rattle.models.specs.Tso as tso;
 ghost use Rattle.verdict.specs.Base.{baseOf};
+ghost use Rattle.verdict.specs.Steps.{Held};
 
-// ppo = [R] ; po ; ([R] ∪ [W]) ∪ [W] ; po ; [W]
-fn ppo(reads: Row, writes: Row, po: Grid) -> Grid
-    ensures { λ r. ⌜ ((B : Base) → bit reads ≡ B .set R → bit writes ≡ B .set W → edge po ≡ B .po → edge r ≡ eval nodes tso.ppo B) ⌝ }
+// The clauses of ppo: [R] ; po ; ([R] ∪ [W]), [W] ; po ; [W]
+fn ppo(reads: Row, writes: Row, po: Grid) -> [Grid; 2]
+    ensures { λ r. ⌜ ((B : Base) → bit reads ≡ B .set R → bit writes ≡ B .set W → edge po ≡ B .po → Held 2 tso.ppoClauses B r) ⌝ }
 {
     let accesses = row::or(reads, writes);
     let read = grid::from(reads, grid::into(po, accesses));
-    grid::or(read, grid::from(writes, grid::into(po, writes)))
+    [read, grid::from(writes, grid::into(po, writes))]
 }
 
 // The set of full = [Fsc] ∪ [dom(rmw)] ∪ [codom(rmw)]
@@ -44,13 +47,46 @@ fn node(reads: Row, writes: Row, fsc: Row) -> Row
     row::or(row::or(reads, writes), fsc)
 }
 
-// fenced = node ; po ; full ∪ full ; po ; node
-fn fenced(node: Row, full: Row, po: Grid) -> Grid
+// The clauses of fenced: node ; po ; full, full ; po ; node
+fn fenced(node: Row, full: Row, po: Grid) -> [Grid; 2]
     ensures { λ r. ⌜ ((B : Base) → identity (bit node) ≡ eval nodes tso.node B → identity (bit full) ≡ eval nodes tso.full B → edge po ≡ B .po
-        → edge r ≡ eval nodes tso.fenced B) ⌝ }
+        → Held 2 tso.fencedClauses B r) ⌝ }
 {
     let before = grid::from(node, grid::into(po, full));
-    grid::or(before, grid::from(full, grid::into(po, node)))
+    [before, grid::from(full, grid::into(po, node))]
+}
+
+// The clauses of tso: those of ppo and fenced, rfe, co, fr.
+pub fn clauses(sets: Sets, relations: Relations, fr: Grid) -> Clauses
+    ensures { λ r. ⌜ (let B : Base = baseOf sets relations in
+        edge fr ≡ eval nodes term.fr B → Held 14 tso.tsoClauses B r) ⌝ }
+{
+    let po = relations[base::PO];
+    let reads = sets[base::READS];
+    let writes = sets[base::WRITES];
+    let fsc = sets[base::FSC];
+    let p = ppo(reads, writes, po);
+    let full = full(sets[base::EVENTS], fsc, relations[base::RMW]);
+    let f = fenced(node(reads, writes, fsc), full, po);
+    let rfe = grid::minus(relations[base::RF], po);
+    let co = relations[base::CO];
+    let none = grid::empty();
+    [
+        p[0],
+        p[1],
+        f[0],
+        f[1],
+        rfe,
+        co,
+        fr,
+        none,
+        none,
+        none,
+        none,
+        none,
+        none,
+        none,
+    ]
 }
 
 // tso = ppo ∪ fenced ∪ rfe ∪ co ∪ fr
@@ -58,14 +94,5 @@ pub fn tso(sets: Sets, relations: Relations, fr: Grid) -> Grid
     ensures { λ r. ⌜ (let B : Base = baseOf sets relations in
         edge fr ≡ eval nodes term.fr B → edge r ≡ eval nodes tso.tso B) ⌝ }
 {
-    let po = relations[base::PO];
-    let reads = sets[base::READS];
-    let writes = sets[base::WRITES];
-    let fsc = sets[base::FSC];
-    let ppo = ppo(reads, writes, po);
-    let full = full(sets[base::EVENTS], fsc, relations[base::RMW]);
-    let fenced = fenced(node(reads, writes, fsc), full, po);
-    let rfe = grid::minus(relations[base::RF], po);
-    let before = grid::or(grid::or(ppo, fenced), rfe);
-    grid::or(grid::or(before, relations[base::CO]), fr)
+    clause::union(clauses(sets, relations, fr))
 }

@@ -1,7 +1,8 @@
--- `ob::aob` meets its contract: its definition, call by call.
-use Rattle.models.specs.Term.{eval}
-use Rattle.models.specs.Armv8.{aob}
-use Rattle.verdict.proofs.TermLaws.{holds, given, is-union, is-into, is-codom, is-before}
+-- `ob::aob` meets its contract: its clauses, call by call.
+use mathlib.Core.List.{[], _∷_}
+use Rattle.models.specs.Recording.{Racq}
+use Rattle.models.specs.Term.{eval, rmw, ⟨_⟩, ⟨codom_⟩, _⨾_, rfᵢ}
+use Rattle.verdict.proofs.TermLaws.{holds, given, is-into, is-codom, is-before}
 use borrow.Author.Needs.{needs}
 use Rattle.armv8.proofs.ob.aob.Statement.{statement}
 use Rattle.armv8.proofs.ob.aob.Tie as tie
@@ -9,10 +10,15 @@ use Rattle.armv8.proofs.ob.aob.Tie as tie
 returns : tie.Need-returns
 unfolding eval
 returns c =
-    λ B e q m i. let after-into = c .before .before in
-    holds B aob
-    (is-union (given m)
-    (is-before _ (is-codom _ e (given m) (after-into .before .image .ensures)) (is-into _ q (given i) (after-into .into .ensures)) (c .before .from .ensures)) (c .or .ensures))
+    λ B e q m i. let write = holds B (⟨codom rmw ⟩ ⨾ rfᵢ ⨾ ⟨ Racq ⟩)
+    (is-before _ (is-codom _ e (given m) (c .before .before .image .ensures)) (is-into _ q (given i) (c .before .into .ensures)) (c .from .ensures)) in
+    record { clauses = λ n. m n ∷ write n ∷ [] }
 
 pub aob-spec : {M : Type 1} → statement M
-aob-spec = tie.close (tie.spec (λ c κs. search needs) (λ c κs. search needs) (λ c κs. search needs) (λ c κs. search needs) returns)
+aob-spec =
+    tie.close
+    (tie.spec
+    (λ c κs. search needs)
+    (λ c κs. search needs)
+    (λ c κs. search needs)
+    returns)

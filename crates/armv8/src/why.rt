@@ -1,0 +1,45 @@
+// The clauses by which the steps of a ring are explained, and the steps.
+
+use crate::ob;
+use relation::grid;
+use verdict::Verdict;
+use verdict::base;
+use verdict::base::Relations;
+use verdict::base::Sets;
+use verdict::clause;
+use verdict::clause::Clauses;
+use verdict::clause::Steps;
+use verdict::per_location;
+use verdict::rules;
+ghost use Prim.Native.Nat.{_≤_};
+ghost use Rattle.models.specs.Why.{clausesOf, armv8Clauses};
+ghost use Rattle.verdict.specs.Base.{baseOf};
+ghost use Rattle.verdict.specs.Answer.{ruleOf};
+ghost use Rattle.verdict.specs.Steps.{Held, StepsBy};
+
+// The clauses of a rule by its number.
+fn clauses(sets: Sets, relations: Relations, rule: u8) -> Clauses
+    ensures { λ r. ⌜ Held 14 (clausesOf armv8Clauses rule) (baseOf sets relations) r ⌝ }
+{
+    let po = relations[base::PO];
+    let rf = relations[base::RF];
+    let co = relations[base::CO];
+    let fr = rules::fr(rf, co);
+    if rule == 3 {
+        return per_location::clauses(po, relations[base::LOC], rf, fr, co);
+    }
+    if rule == 5 {
+        return ob::clauses(sets, relations, grid::minus(fr, po), grid::minus(co, po));
+    }
+    clause::none()
+}
+
+// The steps of the ring that a verdict shows, each with the number of its clause.
+pub fn why(sets: Sets, relations: Relations, v: Verdict) -> Steps
+    requires { ⌜ v .len ≤ 64 ⌝ }
+    ensures { λ r. ⌜ StepsBy (clausesOf armv8Clauses (ruleOf (v .answer))) (baseOf sets relations) v r ⌝ }
+{
+    let answer = v.answer;
+    let c = clauses(sets, relations, clause::rule(answer));
+    clause::explained(v, c)
+}

@@ -1,0 +1,97 @@
+// The clause behind each step of a ring, as bytes: two events and the number of the clause.
+
+use crate::answered;
+use crate::coded;
+use layout::kind;
+use recording::causes;
+use verdict::Verdict;
+use verdict::clause;
+use verdict::clause::Steps;
+ghost use mathlib.Core.Path.{_≡_};
+ghost use mathlib.Core.List.{[]};
+ghost use Prim.Native.Nat.{_*_, _≤_};
+ghost use lib.ListN.{length, take};
+ghost use Rattle.layout.specs.Layout.{source, chip};
+ghost use Rattle.models.specs.Rules.{IMM, ARMv8, TSO};
+ghost use Rattle.models.specs.Why.{immClauses, armv8Clauses, tsoRingClauses};
+ghost use Rattle.imm.specs.Judged as imm;
+ghost use Rattle.armv8.specs.Judged as armv8;
+ghost use Rattle.tso.specs.Judged as tso;
+ghost use Rattle.verdict.specs.Answer.{ruleOf};
+ghost use Rattle.verdict.specs.Steps.{ring};
+ghost use Rattle.probe.specs.Calls.{Stored, bytesOf, Explains, causeForNone};
+
+// The first n steps, one behind the other.
+fn flat(steps: Steps, n: usize) -> [u8; 192]
+    requires { ⌜ n ≤ 64 ⌝ }
+    ensures { λ r. ⌜ take (3 * n) r ≡ bytesOf (take n steps) ⌝ }
+{
+    let mut at = [0u8; 192];
+    let mut k: usize = 0;
+    while k < n {
+        let s = steps[k];
+        at[3 * k] = s[0];
+        at[3 * k + 1] = s[1];
+        at[3 * k + 2] = s[2];
+        k += 1;
+    }
+    at
+}
+
+// The steps of the ring of a verdict, and the rule that is broken.
+fn explained(v: Verdict, steps: Steps, out: &mut [u8]) -> u64
+    requires { ⌜ v .len ≤ 64 ⌝ }
+    ensures { λ r. ⌜ Stored 0 (ruleOf (v .answer)) (bytesOf (take (length (ring v)) steps)) (now (out .entry)) r (now (out .exit)) ⌝ }
+{
+    let n = clause::ring_length(v);
+    let at = flat(steps, n);
+    let answer = v.answer;
+    answered(clause::rule(answer), output::fill(out, &at[..3 * n]))
+}
+
+// Of a number that no model has.
+pub fn of_none(file: &[u8], out: &mut [u8]) -> u64
+    ensures { λ r. ⌜ Stored (causeForNone (now (file .entry))) 0 [] (now (out .entry)) r (now (out .exit)) ⌝ }
+{
+    let k = causes::number(causes::load(file));
+    if k != 0 {
+        return coded(k, 0, 0);
+    }
+    coded(11, 0, 0)
+}
+
+// Of the IMM verdict on a source file.
+pub fn of_imm(file: &[u8], out: &mut [u8]) -> u64
+    ensures { λ r. ⌜ Explains source IMM immClauses imm.Judged (now (file .entry)) (now (out .entry)) r (now (out .exit)) ⌝ }
+{
+    let k = causes::cause(file, kind::SOURCE);
+    if k != 0 {
+        return coded(k, 0, 0);
+    }
+    let v = imm::file::loaded(file);
+    explained(v, imm::file::explained(file, v), out)
+}
+
+// Of the ARMv8 verdict on a chip file.
+pub fn of_armv8(file: &[u8], out: &mut [u8]) -> u64
+    ensures { λ r. ⌜ Explains chip ARMv8 armv8Clauses armv8.Judged (now (file .entry)) (now (out .entry)) r (now (out .exit)) ⌝ }
+{
+    let k = causes::cause(file, kind::CHIP);
+    if k != 0 {
+        return coded(k, 0, 0);
+    }
+    let v = armv8::file::loaded(file);
+    explained(v, armv8::file::explained(file, v), out)
+}
+
+// Of the x86-TSO verdict on a source file.
+pub fn of_tso(file: &[u8], out: &mut [u8]) -> u64
+    ensures { λ r. ⌜ Explains source TSO tsoRingClauses tso.Judged (now (file .entry)) (now (out .entry)) r (now (out .exit)) ⌝ }
+{
+    let k = causes::cause(file, kind::SOURCE);
+    if k != 0 {
+        return coded(k, 0, 0);
+    }
+    let v = tso::file::loaded(file);
+    explained(v, tso::file::explained(file, v), out)
+}
