@@ -2,6 +2,7 @@
  *
  *     probe verdict FILE             the verdict on a recording, by IMM (source) or ARMv8 (chip), and the events shown
  *     probe tso FILE                 the verdict of x86-TSO on a source recording, and the events shown
+ *     probe why FILE                 the steps of a broken verdict's ring by IMM or ARMv8, each with the number of its clause (probe.h)
  *     probe translate FILE OUT       writes the translation of a source recording
  *     probe judge FILE               the lines that the program judge prints
  *     probe page FILE                the printed page, with a star at each event of a broken verdict by IMM or ARMv8
@@ -57,20 +58,31 @@ static probe_answer ask(size_t length, const char **model)
     return answer;
 }
 
+/* Starts the line of a verdict. */
+static void head(probe_answer answer, const char *model)
+{
+    if (PROBE_RULE(answer) == 0)
+        printf("allowed by %s:", model);
+    else
+        printf("rule %u of %s is broken:", PROBE_RULE(answer), model);
+}
+
+/* Ends the line of a verdict. */
+static int end(probe_answer answer)
+{
+    printf("\n");
+    return printed(PROBE_RULE(answer) != 0);
+}
+
 /* Prints a verdict with the events that are shown. */
 static int say(probe_answer answer, const char *model)
 {
     if (PROBE_REFUSAL(answer) != 0)
         return refused(answer);
-    unsigned rule = PROBE_RULE(answer);
-    if (rule == 0)
-        printf("allowed by %s:", model);
-    else
-        printf("rule %u of %s is broken:", rule, model);
+    head(answer, model);
     for (size_t i = 0; i < PROBE_LENGTH(answer); i++)
         printf(" %u", events[i]);
-    printf("\n");
-    return printed(rule != 0);
+    return end(answer);
 }
 
 static int verdict(size_t length)
@@ -83,6 +95,22 @@ static int verdict(size_t length)
 static int tso(size_t length)
 {
     return say(probe_tso(file, length, events, sizeof events), "x86-TSO");
+}
+
+static int why(size_t length)
+{
+    const char *model = "IMM";
+    probe_answer answer = probe_why(file, length, PROBE_IMM, out, sizeof out);
+    if (PROBE_REFUSAL(answer) == PROBE_OTHER_KIND) {
+        model = "ARMv8";
+        answer = probe_why(file, length, PROBE_ARMV8, out, sizeof out);
+    }
+    if (PROBE_REFUSAL(answer) != 0)
+        return refused(answer);
+    head(answer, model);
+    for (size_t i = 0; i < PROBE_LENGTH(answer); i += 3)
+        printf("%s %u to %u by clause %u", i == 0 ? "" : ",", out[i], out[i + 1], out[i + 2]);
+    return end(answer);
 }
 
 static int translate(size_t length, const char *name)
@@ -135,7 +163,7 @@ int main(int count, char **words)
     static const struct {
         const char *word;
         int (*run)(size_t length);
-    } printing[] = {{"verdict", verdict}, {"tso", tso}, {"judge", judge}, {"page", page}};
+    } printing[] = {{"verdict", verdict}, {"tso", tso}, {"why", why}, {"judge", judge}, {"page", page}};
     const char *word = count > 1 ? words[1] : "";
     size_t length = 0;
     for (size_t i = 0; i < sizeof printing / sizeof printing[0]; i++)
@@ -143,6 +171,6 @@ int main(int count, char **words)
             return read_file(words[2], &length) ? printing[i].run(length) : 3;
     if (count == 4 && strcmp(word, "translate") == 0)
         return read_file(words[2], &length) ? translate(length, words[3]) : 3;
-    fprintf(stderr, "usage: probe verdict FILE | tso FILE | translate FILE OUT | judge FILE | page FILE\n");
+    fprintf(stderr, "usage: probe verdict FILE | tso FILE | why FILE | translate FILE OUT | judge FILE | page FILE\n");
     return 3;
 }

@@ -9,7 +9,7 @@
  *
  * Every answer has one form:
  *   PROBE_REFUSAL(answer)  0, or the number of the cause that refused the call (below); then the other parts are 0
- *   PROBE_RULE(answer)     of a verdict: 0 where the recording is allowed, else the first broken rule, 1 to 5
+ *   PROBE_RULE(answer)     of a verdict and of probe_why: 0 where the recording is allowed, else the first broken rule, 1 to 5
  *   PROBE_LENGTH(answer)   how many bytes were written to the start of out
  * Bytes of out behind those written keep their contents. A refused call leaves all of out as it was.
  */
@@ -42,7 +42,8 @@ enum {
     PROBE_LINK = 8,         /* link type not 1 to 7, its conditions broken, or its last byte not 0 */
     PROBE_CO_RING = 9,      /* co leads back to its start */
     PROBE_STRONG = 10,      /* strong write without rmw */
-    PROBE_OTHER_KIND = 11,  /* probe_imm, probe_tso or probe_translate of a chip file, probe_armv8 of a source file */
+    PROBE_OTHER_KIND = 11,  /* probe_imm, probe_tso or probe_translate of a chip file, probe_armv8 of a source file; probe_why by a model
+                               of the other kind of file, or by a number that is no model's */
     PROBE_ROOM = 12         /* out is shorter than what is to be written; nothing was written */
 };
 
@@ -51,6 +52,7 @@ enum {
 #define PROBE_MOST_TRANSLATION 1320u /* for probe_translate */
 #define PROBE_MOST_LINES 960u        /* for probe_judge */
 #define PROBE_MOST_PAGE 1458u        /* for probe_page */
+#define PROBE_MOST_WHY 192u          /* for probe_why: 64 steps */
 
 /* A file that loads has at most so many bytes. */
 #define PROBE_MOST_FILE 1412u
@@ -74,6 +76,74 @@ probe_answer probe_load(const uint8_t *file, size_t length);
 probe_answer probe_imm(const uint8_t *file, size_t length, uint8_t *out, size_t room);
 probe_answer probe_armv8(const uint8_t *file, size_t length, uint8_t *out, size_t room);
 probe_answer probe_tso(const uint8_t *file, size_t length, uint8_t *out, size_t room);
+
+/* The models, as probe_why takes them. */
+enum {
+    PROBE_IMM = 1,   /* IMM, of source files */
+    PROBE_ARMV8 = 2, /* ARMv8, of chip files */
+    PROBE_TSO = 3    /* x86-TSO, of source files */
+};
+
+/* Why a model's verdict on a file is broken 3 or 5: the clause behind each step of a ring. Refusals 1 to 13.
+ * PROBE_RULE is that of the model's verdict. Where it is 3 or 5, three bytes are written for each step, in the ring's order: an event, the
+ * next one (behind the last the first), and the number of the clause, of this model and rule, that leads from the one to the other. The
+ * ring is one that the verdict may show: a shortest one, its smallest event first. Where the rule is 0, 1, 2 or 4, nothing is written.
+ * Any other number than the three, 257 too, is no model's: a file that does not load gets its cause, and every other file 11.
+ *
+ * Where several clauses lead from an event to the next, the first in the list is named. In the names `;` is "then", `|` "or", `?` "or
+ * nothing", and [A] says that an event is of the set A; docs/FORMAT.md has each as a formula. In the words behind them, within a thread is
+ * po: from earlier to later in a thread, or from an initial write to a recorded event.
+ *
+ * IMM, rule 3. 3 to 7, eco, are at most one step of a ring.
+ *    1  po                            within a thread
+ *    2  sw                            from a release write or fence to an acquire read or fence that sees a write of its release sequence
+ *    3  rf                            to a read of the write
+ *    4  co                            to a later write of the location
+ *    5  co;rf                         to a read of such a write
+ *    6  fr                            from a read to a write later than the one it reads
+ *    7  fr;rf                         to a read of such a write
+ * IMM, rule 5.
+ *    1  rfe                           rf, not within a thread
+ *    2  po;[Wrel]                     into a release write
+ *    3  [Racq];po                     out of an acquire read
+ *    4  po;[F]                        into a fence
+ *    5  [F];po                        out of a fence
+ *    6  [Wrel];po-loc;[W]             from a release write to a later write of its location, within a thread
+ *    7  ppo                           from a read to a write that depends on it
+ *    8  detour                        from a write to a read behind it that reads a later write, of another thread
+ *    9  psc                           from an SC fence by hb, eco and hb to an SC fence
+ *   10  [Wstrong];po;[W]              from a strong write to a later write of its thread
+ * ARMv8 and x86-TSO, rule 3.
+ *    1  po-loc                        within a thread, at one location
+ *    2  rf                            to a read of the write
+ *    3  fr                            from a read to a write later than the one it reads
+ *    4  co                            to a later write of the location
+ * ARMv8, rule 5.
+ *    1  rfe                           rf, not within a thread
+ *    2  fre                           fr, not within a thread
+ *    3  coe                           co, not within a thread
+ *    4  (addr|data);rfi?              to what has the read's value in its address or as its data, or to a read of that in the thread
+ *    5  (ctrl|data);[W];coi?          to a write that has the read's value as its data or is behind a branch on it, or to a later write of
+ *                                     that location in the thread
+ *    6  addr;po;[W]                   to a write behind what has the read's value in its address
+ *    7  (ctrl|addr;po);[Fisb];po;[R]  across an isb to a read, where the isb is behind a branch on the value of the first read, or behind
+ *                                     what has it in its address
+ *    8  rmw                           from the read of a pair to its write
+ *    9  [codom(rmw)];rfi;[Racq]       from the write of a pair to an ldar of it in the thread
+ *   10  po;[Fsy];po                   across a dmb sy
+ *   11  [R];po;[Fld];po               from a read across a dmb ld
+ *   12  [Racq];po                     out of an ldar
+ *   13  po;[Wrel];coi?                into an stlr, or on to a later write of its location in the thread
+ *   14  [Wrel];po;[Racq]              from an stlr to a later ldar
+ * x86-TSO, rule 5. Full are SC fences and the events of rmw pairs, nodes these and all reads and writes.
+ *    1  [R];po;([R]|[W])              from a read to a later read or write of its thread
+ *    2  [W];po;[W]                    from a write to a later write of its thread
+ *    3  node;po;full                  into a full event
+ *    4  full;po;node                  out of a full event
+ *    5  rfe                           rf, not within a thread
+ *    6  co                            to a later write of the location
+ *    7  fr                            from a read to a write later than the one it reads */
+probe_answer probe_why(const uint8_t *file, size_t length, uint64_t model, uint8_t *out, size_t room);
 
 /* The translation of a source file to ARMv8 instructions, a chip file that loads. Refusals 1 to 13.
  * A source file that probe_imm calls broken has a translation that probe_armv8 calls broken. */

@@ -40,7 +40,8 @@ closing() {
 }
 
 # differing ONE TWO: how many lines of two lists differ, as text: awk takes a file in digits alone for a number, and rounds it.
-differing() { paste -d '|' "$1" "$2" | awk -F '|' '($1 "") != ($2 "") { n++ } END { print n + 0 }'; }
+# They are joined by a byte that no answer has.
+differing() { paste -d $'\x01' "$1" "$2" | awk -F $'\x01' '($1 "") != ($2 "") { n++ } END { print n + 0 }'; }
 
 # same NAME EXPECTED GOT: compares two lists of answers line by line; each line is a case.
 same() {
@@ -53,17 +54,23 @@ same() {
   [ "$different" -eq 0 ] || diff "$2" "$3" | head -n 10
 }
 
-# judged NAME FILES GOT: the oracle checks printed lines, whose rings are free, file by file; each file is a case.
-judged() {
+# checked COMMAND NAME FILES GOT: a command of the oracle checks printed lines, whose rings are free, file by file; each file is a case.
+checked() {
   local number different report
-  number=$(wc -l <"$2")
-  report=$(paste "$2" "$3" | target/oracle/release/oracle check)
+  number=$(wc -l <"$3")
+  report=$(paste "$3" "$4" | target/oracle/release/oracle "$1")
   different=$(tail -n 1 <<<"$report" | sed -n "s/^$number compared, \([0-9]*\) different\$/\1/p")
   if [ -z "$different" ]; then
-    wrong "$1: the oracle compared other than $number files"
+    wrong "$2: the oracle compared other than $number files"
     return
   fi
   count $((number - different)) "$different"
-  echo "$1: $number files, $different different"
+  echo "$2: $number files, $different different"
   [ "$different" -eq 0 ] || head -n 10 <<<"$report"
 }
+
+# judged NAME FILES GOT: the judge's lines.
+judged() { checked check "$@"; }
+
+# explained NAME FILES GOT: what why prints.
+explained() { checked check-why "$@"; }

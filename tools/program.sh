@@ -1,4 +1,4 @@
-# What the scripts judge, page and translate share: they read recordings, and prove, build and run a program of this repository.
+# What the scripts judge, why, page and translate share: they read recordings, and prove, build and run a program of this repository.
 # A script that sources this has set root, the repository's folder, and name, the program's name, which starts its messages. It has a
 # function usage that prints its help.
 

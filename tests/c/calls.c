@@ -102,6 +102,31 @@ static void page_with(const char *name, const uint8_t *file, size_t length, cons
     }
 }
 
+/* The number of the model that probe_why is called with, by which it has the form of the other calls. */
+static uint64_t model;
+
+static probe_answer why(const uint8_t *file, size_t length, uint8_t *out, size_t room)
+{
+    return probe_why(file, length, model, out, room);
+}
+
+/* Numbers that are no model's; the low byte, or the low four, of some are a model's number. */
+static const uint64_t no_models[] = {0, 4, 5, 255, 256, 256 + 1, 256 + 2, 256 + 3, 65536 + 2, (1ull << 32) + 1, (1ull << 32) + 2,
+                                     (1ull << 63) + 3, UINT64_MAX - 1, UINT64_MAX};
+
+/* probe_why by a number that is refused. */
+static void why_refused(const char *name, const uint8_t *file, size_t length, uint64_t number, unsigned cause)
+{
+    model = number;
+    refused(why, name, file, length, cause);
+}
+
+static void why_refused_by_no_models(const char *name, const uint8_t *file, size_t length, unsigned cause)
+{
+    for (size_t i = 0; i < sizeof no_models / sizeof no_models[0]; i++)
+        why_refused(name, file, length, no_models[i], cause);
+}
+
 /* A file that no call but probe_judge takes. */
 static void refused_by_all(const char *name, const uint8_t *file, size_t length, unsigned cause)
 {
@@ -112,6 +137,9 @@ static void refused_by_all(const char *name, const uint8_t *file, size_t length,
     refused(probe_armv8, name, file, length, cause);
     refused(probe_tso, name, file, length, cause);
     refused(probe_translate, name, file, length, cause);
+    for (uint64_t number = PROBE_IMM; number <= PROBE_TSO; number++)
+        why_refused(name, file, length, number, cause);
+    why_refused_by_no_models(name, file, length, cause);
     page_with(name, file, length, EVENTS(1, 2), 2, coded(cause, 0, 0), NULL);
     prints(name, file, length, line);
 }
@@ -222,6 +250,25 @@ static void judged(call function, const char *name, const uint8_t *file, size_t 
     at_each_room(function, name, file, length, coded(0, v->rule, v->shown), v->events);
 }
 
+/* What probe_why has to write of a file that breaks rule 3 or 5 of a model: its steps, three bytes each. */
+struct steps {
+    const uint8_t *file;
+    uint64_t model;
+    size_t length;
+    const uint8_t *bytes;
+};
+
+static const struct steps *find_steps(const uint8_t *file, uint64_t number);
+
+/* probe_why by a model whose verdict this is. */
+static void explained(const char *name, const uint8_t *file, size_t length, uint64_t number, const struct verdict *v)
+{
+    const struct steps *s = find_steps(file, number);
+    expect((s != NULL) == (v->rule == 3 || v->rule == 5), name, "steps are not written down for each ring, or for what is none");
+    model = number;
+    at_each_room(why, name, file, length, coded(0, v->rule, s ? s->length : 0), s ? s->bytes : NULL);
+}
+
 /* A chip file with its ARMv8 verdict. */
 struct chip {
     const char *name;
@@ -237,6 +284,10 @@ static void chip(const struct chip *c)
     refused(probe_tso, c->name, c->file, c->length, PROBE_OTHER_KIND);
     refused(probe_translate, c->name, c->file, c->length, PROBE_OTHER_KIND);
     judged(probe_armv8, c->name, c->file, c->length, &c->armv8);
+    explained(c->name, c->file, c->length, PROBE_ARMV8, &c->armv8);
+    why_refused(c->name, c->file, c->length, PROBE_IMM, PROBE_OTHER_KIND);
+    why_refused(c->name, c->file, c->length, PROBE_TSO, PROBE_OTHER_KIND);
+    why_refused_by_no_models(c->name, c->file, c->length, PROBE_OTHER_KIND);
     prints(c->name, c->file, c->length, c->armv8.line);
     stars(c->name, c->file, c->length);
 }
@@ -261,6 +312,10 @@ static void source(const struct source *s)
     judged(probe_imm, s->name, s->file, s->length, &s->imm);
     judged(probe_tso, s->name, s->file, s->length, &s->tso);
     refused(probe_armv8, s->name, s->file, s->length, PROBE_OTHER_KIND);
+    explained(s->name, s->file, s->length, PROBE_IMM, &s->imm);
+    explained(s->name, s->file, s->length, PROBE_TSO, &s->tso);
+    why_refused(s->name, s->file, s->length, PROBE_ARMV8, PROBE_OTHER_KIND);
+    why_refused_by_no_models(s->name, s->file, s->length, PROBE_OTHER_KIND);
     at_each_room(probe_translate, s->name, s->file, s->length, coded(0, 0, s->chip_length), s->chip);
     prints(s->name, s->file, s->length, lines);
     stars(s->name, s->file, s->length);
@@ -268,6 +323,14 @@ static void source(const struct source *s)
 }
 
 #include "recordings.h"
+
+static const struct steps *find_steps(const uint8_t *file, uint64_t number)
+{
+    for (size_t i = 0; i < sizeof steps / sizeof steps[0]; i++)
+        if (steps[i].file == file && steps[i].model == number)
+            return &steps[i];
+    return NULL;
+}
 
 int main(void)
 {

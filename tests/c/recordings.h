@@ -1,7 +1,7 @@
 /* Recordings written out by hand: header, event records, link records, a line each. Source files and their translations, chip files with
  * isb and one that is all a ring, then files for each cause of refusal, in the order of the causes; behind them what is expected of each,
- * with the ring under x86-TSO in words where it is not plain, and pages. Every ring shown is a shortest one, and the only one of its
- * length. */
+ * with the ring under x86-TSO in words where it is not plain, the steps of every ring, and pages. Every ring shown is a shortest one, and
+ * the only one of its length. */
 
 /* worked example */
 static const uint8_t worked[] = {
@@ -1205,6 +1205,52 @@ static const struct chip chips[] = {
              33, 34, 35, 36, 37, 38, 39, 40, 41, 42, 43, 44, 45, 46, 47, 48),
       "chip broken 5 1 2 3 4 5 6 7 8 9 10 11 12 13 14 15 16 17 18 19 20 21 22 23 24 25 26 27 28 29 30 31 32 33 34 35 36 37 38 "
       "39 40 41 42 43 44 45 46 47 48\n"}},
+};
+
+/* A step: from an event, to an event, by a clause. */
+#define STEPS(...) sizeof(EVENTS(__VA_ARGS__)), EVENTS(__VA_ARGS__)
+
+static const struct steps steps[] = {
+    /* po; from the read 4 by fr to the write 2, and by rf to the read 3 of it */
+    {older, PROBE_IMM, STEPS(3, 4, 1, 4, 3, 7)},
+    /* rf, po-loc, fr */
+    {older_chip, PROBE_ARMV8, STEPS(2, 3, 2, 3, 4, 1, 4, 2, 3)},
+    {older, PROBE_TSO, STEPS(2, 3, 2, 3, 4, 1, 4, 2, 3)},
+    /* psc both ways */
+    {buffering, PROBE_IMM, STEPS(2, 5, 9, 5, 2, 9)},
+    /* across a dmb sy, fre, and the same again */
+    {buffering_chip, PROBE_ARMV8, STEPS(1, 3, 10, 3, 4, 2, 4, 6, 10, 6, 1, 2)},
+    /* into an SC fence, out of it, fr, and the same again */
+    {buffering, PROBE_TSO, STEPS(1, 2, 3, 2, 3, 4, 3, 4, 7, 4, 5, 3, 5, 6, 4, 6, 1, 7)},
+    /* out of the write of a pair, fr, and the same again */
+    {by_pairs, PROBE_TSO, STEPS(2, 3, 4, 3, 5, 7, 5, 6, 4, 6, 2, 7)},
+    /* across a dmb sy, fre, and the same again */
+    {acq_rel_chip, PROBE_ARMV8, STEPS(1, 3, 10, 3, 4, 2, 4, 6, 10, 6, 1, 2)},
+    /* po between writes, rfe, po between reads, fr */
+    {passing, PROBE_TSO, STEPS(1, 2, 2, 2, 3, 5, 3, 4, 1, 4, 1, 7)},
+    /* sw from the fence to itself */
+    {own_fence, PROBE_IMM, STEPS(2, 2, 2)},
+    /* po-loc, and rf against it */
+    {own_fence_chip, PROBE_ARMV8, STEPS(1, 3, 1, 3, 1, 2)},
+    {own_fence, PROBE_TSO, STEPS(1, 3, 1, 3, 1, 2)},
+    /* ppo from each read, rfe from each write */
+    {circle, PROBE_IMM,
+     STEPS(1, 2, 7, 2, 3, 1, 3, 4, 7, 4, 5, 1, 5, 6, 7, 6, 7, 1, 7, 8, 7, 8, 9, 1, 9, 10, 7, 10, 11, 1, 11, 12, 7, 12, 13, 1, 13, 14, 7,
+           14, 15, 1, 15, 16, 7, 16, 17, 1, 17, 18, 7, 18, 19, 1, 19, 20, 7, 20, 21, 1, 21, 22, 7, 22, 23, 1, 23, 24, 7, 24, 25, 1,
+           25, 26, 7, 26, 27, 1, 27, 28, 7, 28, 29, 1, 29, 30, 7, 30, 1, 1)},
+    /* rfe, data, rfe, and data from 5 to 6 then coi to 2 */
+    {circle_chip, PROBE_ARMV8, STEPS(2, 3, 1, 3, 4, 4, 4, 5, 1, 5, 2, 5)},
+    /* rfe, po from a read, and the same again */
+    {circle, PROBE_TSO, STEPS(2, 3, 5, 3, 4, 1, 4, 5, 5, 5, 2, 1)},
+    /* across a dmb sy, rfe, ctrl into the isb and on to the read, fre */
+    {ctrl_isb, PROBE_ARMV8, STEPS(1, 3, 10, 3, 4, 1, 4, 6, 7, 6, 1, 2)},
+    /* addr within the threads, fre to each write, rfe from it */
+    {all_48, PROBE_ARMV8,
+     STEPS(1, 2, 4, 2, 3, 4, 3, 4, 4, 4, 5, 4, 5, 6, 4, 6, 7, 4, 7, 8, 4, 8, 9, 4, 9, 10, 4, 10, 11, 4, 11, 12, 4, 12, 13, 4, 13, 14, 4,
+           14, 15, 4, 15, 16, 4, 16, 17, 4, 17, 18, 4, 18, 19, 2, 19, 20, 1, 20, 21, 4, 21, 22, 4, 22, 23, 4, 23, 24, 4, 24, 25, 4,
+           25, 26, 4, 26, 27, 4, 27, 28, 4, 28, 29, 4, 29, 30, 4, 30, 31, 4, 31, 32, 4, 32, 33, 4, 33, 34, 4, 34, 35, 4, 35, 36, 4,
+           36, 37, 4, 37, 38, 2, 38, 39, 1, 39, 40, 4, 40, 41, 4, 41, 42, 4, 42, 43, 4, 43, 44, 4, 44, 45, 4, 45, 46, 4, 46, 47, 4,
+           47, 48, 2, 48, 1, 1)},
 };
 
 static const struct {

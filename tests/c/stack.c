@@ -29,6 +29,11 @@ static void load(const struct file *f) { probe_load(f->bytes, f->length); }
 static void imm(const struct file *f) { probe_imm(f->bytes, f->length, out, sizeof out); }
 static void armv8(const struct file *f) { probe_armv8(f->bytes, f->length, out, sizeof out); }
 static void tso(const struct file *f) { probe_tso(f->bytes, f->length, out, sizeof out); }
+static void why(const struct file *f)
+{
+    for (uint64_t model = PROBE_IMM; model <= PROBE_TSO; model++)
+        probe_why(f->bytes, f->length, model, out, sizeof out);
+}
 static void translate(const struct file *f) { probe_translate(f->bytes, f->length, out, sizeof out); }
 static void judge(const struct file *f) { probe_judge(f->bytes, f->length, out, sizeof out); }
 static void page(const struct file *f) { probe_page(f->bytes, f->length, f->bytes, f->length, out, sizeof out); } /* the ring is the file */
@@ -84,8 +89,8 @@ int main(void)
     static const struct {
         const char *name;
         void (*call)(const struct file *);
-    } calls[] = {{"probe_load", load},           {"probe_imm", imm},     {"probe_armv8", armv8}, {"probe_tso", tso},
-                 {"probe_translate", translate}, {"probe_judge", judge}, {"probe_page", page}};
+    } calls[] = {{"probe_load", load}, {"probe_imm", imm},             {"probe_armv8", armv8}, {"probe_tso", tso},
+                 {"probe_why", why},   {"probe_translate", translate}, {"probe_judge", judge}, {"probe_page", page}};
     int passed = 0, failed = 0;
     read_files();
     size_t before = used(nothing);

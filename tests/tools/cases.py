@@ -224,6 +224,15 @@ BREAKS = {  # how a drawing names a broken rule, of any model or of one
     "source 3": "a ring of po and sw, one step may be of eco", "source 5": "a ring of ar",
     "chip 3": "a ring of po-loc, rf, co and fr", "chip 5": "a ring of ob", "tso 3": "a ring of po-loc, rf, co and fr", "tso 5": "a ring of tso",
 }
+CLAUSES = {  # the clauses that steps are named by, of a model and a rule
+    "source 3": ["po", "sw", "rf", "co", "co;rf", "fr", "fr;rf"],
+    "source 5": ["rfe", "po;[Wrel]", "[Racq];po", "po;[F]", "[F];po", "[Wrel];po-loc;[W]", "ppo", "detour", "psc", "[Wstrong];po;[W]"],
+    "chip 3": ["po-loc", "rf", "fr", "co"],
+    "chip 5": ["rfe", "fre", "coe", "(addr|data);rfi?", "(ctrl|data);[W];coi?", "addr;po;[W]", "(ctrl|addr;po);[Fisb];po;[R]", "rmw",
+               "[codom(rmw)];rfi;[Racq]", "po;[Fsy];po", "[R];po;[Fld];po", "[Racq];po", "po;[Wrel];coi?", "[Wrel];po;[Racq]"],
+    "tso 3": ["po-loc", "rf", "fr", "co"],
+    "tso 5": ["[R];po;([R]|[W])", "[W];po;[W]", "node;po;full", "full;po;node", "rfe", "co", "fr"],
+}
 RING_OF_ONE = ("source locations x\nthread 1\n1: fence sc\n", "source broken 3 1")
 MISUSES = [  # words, part of what is said behind the usage
     ((), "the following arguments are required"), (("text",), "required: file"), (("renumber",), "required: file"),

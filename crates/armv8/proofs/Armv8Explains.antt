@@ -10,7 +10,7 @@ use Rattle.models.specs.Why.{clausesOf, armv8Clauses}
 use Rattle.models.proofs.ClauseLaws.{ob-opened}
 use Rattle.verdict.specs.declared.Verdict.{Verdict}
 use Rattle.verdict.specs.Answer.{ruleOf}
-use Rattle.verdict.specs.Steps.{ring, Explained, StepsBy}
+use Rattle.clause.specs.Steps.{ring, Explained, StepsBy}
 use Rattle.execution.proofs.PerLocationExplains.{per-location-explains}
 use Rattle.armv8.specs.Judged.{Judged}
 

@@ -2,10 +2,10 @@
 
 use crate::judge;
 use crate::why::why;
+use clause::Steps;
 use layout::kind;
 use recording::causes;
 use verdict::Verdict;
-use verdict::clause::Steps;
 ghost use lib.ListN.{length, take};
 ghost use Rattle.models.specs.Rules.{ARMv8};
 ghost use Rattle.models.specs.Why.{clausesOf, armv8Clauses};
@@ -13,7 +13,7 @@ ghost use Rattle.layout.specs.Layout.{chip};
 ghost use Rattle.layout.specs.Decode.{decode};
 ghost use Rattle.recording.specs.Load.{LoadsAs};
 ghost use Rattle.verdict.specs.Answer.{ruleOf};
-ghost use Rattle.verdict.specs.Steps.{ring, Explained};
+ghost use Rattle.clause.specs.Steps.{ring, Explained};
 ghost use Rattle.execution.specs.OnFile.{OnRecording, OnFile};
 ghost use Rattle.armv8.specs.Judged.{Judged};
 

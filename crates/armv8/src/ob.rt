@@ -1,14 +1,13 @@
 // The ordered-before relation of ARMv8, line by line of its definition.
 // Each contract holds for every base that the arguments are taken from.
 
+use clause::Clauses;
 use relation::grid;
 use relation::grid::Grid;
 use relation::row::Row;
 use verdict::base;
 use verdict::base::Relations;
 use verdict::base::Sets;
-use verdict::clause;
-use verdict::clause::Clauses;
 ghost use mathlib.Core.Path.{_≡_};
 ghost use Rattle.relation.specs.Rel.{nodes};
 ghost use Rattle.relation.specs.Bits.{bit, edge};
@@ -17,7 +16,7 @@ ghost use Rattle.models.specs.Graph.{Base};
 ghost use Rattle.models.specs.Term.{eval, rfᵢ, coₑ, coᵢ, frₑ};
 ghost use Rattle.models.specs.Armv8 as armv8;
 ghost use Rattle.verdict.specs.Base.{baseOf};
-ghost use Rattle.verdict.specs.Steps.{Held};
+ghost use Rattle.clause.specs.Steps.{Held};
 
 // The clauses of dob: (addr ∪ data) ; rfi?, (ctrl ∪ data) ; [W] ; coi?, addr ; po ; [W], (ctrl ∪ addr ; po) ; [Fisb] ; po ; [R]
 fn dob(

@@ -21,7 +21,7 @@ use Rattle.recording.proofs.Loaded.{loaded-within}
 use Rattle.verdict.specs.Answer.{refuses, answers}
 use Rattle.verdict.specs.declared.Verdict.{Verdict}
 use Rattle.verdict.specs.Base.{baseOf}
-use Rattle.verdict.specs.Steps.{StepsBy}
+use Rattle.clause.specs.Steps.{StepsBy}
 use Rattle.execution.specs.Arrays.{SetsOf, RelationsOf}
 use Rattle.execution.specs.OnFile.{OnRecording, OnFile}
 

@@ -15,8 +15,8 @@ use Rattle.models.proofs.ClauseLaws.{scPerLoc-opened}
 use Rattle.verdict.specs.declared.Verdict.{Verdict}
 use Rattle.verdict.specs.Answer.{ruleOf}
 use Rattle.verdict.specs.PerLocation.{PerLocation}
-use Rattle.verdict.specs.Steps.{ring, Explained, StepsBy}
-use Rattle.verdict.proofs.StepMeaning.{Covers, verdict-explained}
+use Rattle.clause.specs.Steps.{ring, Explained, StepsBy}
+use Rattle.clause.proofs.StepMeaning.{Covers, verdict-explained}
 
 -- cs are the clauses of t, the relation of rule 5.
 module _ (r : Recording ℕ) (within : Within nodes r) (t : Term) (cs : List Clause) (opened : eval nodes t (base nodes r) ≡ unions (tested nodes (base nodes r) cs)) where

@@ -17,8 +17,8 @@ use Rattle.models.specs.Why.{clausesOf, immClauses}
 use Rattle.models.proofs.ClauseLaws.{unions-both, step-opened, eco-opened, ar-opened}
 use Rattle.verdict.specs.declared.Verdict.{Verdict}
 use Rattle.verdict.specs.Answer.{ruleOf}
-use Rattle.verdict.specs.Steps.{ring, Explained, StepsBy}
-use Rattle.verdict.proofs.StepMeaning.{Covers, verdict-explained}
+use Rattle.clause.specs.Steps.{ring, Explained, StepsBy}
+use Rattle.clause.proofs.StepMeaning.{Covers, verdict-explained}
 use Rattle.imm.specs.Judged.{Judged, steps, closing}
 use Rattle.imm.proofs.Around.{closing-cases}
 

@@ -1,14 +1,13 @@
 // The acyclicity relation of IMM, line by line of its definition.
 // Each contract holds for every base that the arguments are taken from.
 
+use clause::Clauses;
 use relation::grid;
 use relation::grid::Grid;
 use relation::row::Row;
 use verdict::base;
 use verdict::base::Relations;
 use verdict::base::Sets;
-use verdict::clause;
-use verdict::clause::Clauses;
 ghost use mathlib.Core.Path.{_≡_};
 ghost use Rattle.relation.specs.Rel.{nodes};
 ghost use Rattle.relation.specs.Bits.{bit, edge};
@@ -17,7 +16,7 @@ ghost use Rattle.models.specs.Graph.{Base};
 ghost use Rattle.models.specs.Term.{eval, po-loc, rfₑ, rfᵢ, coₑ};
 ghost use Rattle.models.specs.Imm as imm;
 ghost use Rattle.verdict.specs.Base.{baseOf};
-ghost use Rattle.verdict.specs.Steps.{Held};
+ghost use Rattle.clause.specs.Steps.{Held};
 
 // The clauses of bob: po ; [Wrel], [Racq] ; po, po ; [F], [F] ; po, [Wrel] ; po-loc ; [W]
 fn bob(writes: Row, fences: Row, racq: Row, wrel: Row, po: Grid, poloc: Grid) -> [Grid; 5]

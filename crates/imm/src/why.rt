@@ -2,20 +2,19 @@
 
 use crate::ar;
 use crate::hb;
+use clause::Clauses;
+use clause::Steps;
 use relation::grid;
 use verdict::Verdict;
 use verdict::base;
 use verdict::base::Relations;
 use verdict::base::Sets;
-use verdict::clause;
-use verdict::clause::Clauses;
-use verdict::clause::Steps;
 use verdict::rules;
 ghost use Prim.Native.Nat.{_≤_};
 ghost use Rattle.models.specs.Why.{clausesOf, immClauses};
 ghost use Rattle.verdict.specs.Base.{baseOf};
 ghost use Rattle.verdict.specs.Answer.{ruleOf};
-ghost use Rattle.verdict.specs.Steps.{Held, StepsBy};
+ghost use Rattle.clause.specs.Steps.{Held, StepsBy};
 
 // Rule 3: po and sw, and for the closing step those of eco.
 fn coherence(sets: Sets, relations: Relations) -> Clauses

@@ -4,13 +4,10 @@ use mathlib.Core.List.{List}
 use Prim.Native.Nat.{ℕ, _≤_}
 use native.Mathlib.Omega.{arith}
 use lib.ListN.{length}
-use Rattle.models.specs.Clause.{Clause}
 use Rattle.layout.specs.Layout.{source, chip}
-use Rattle.layout.specs.Decode.{decode}
 use Rattle.recording.specs.Load.{LoadsAs, causeFor}
 use Rattle.recording.proofs.CauseLaws.{cause-own}
 use Rattle.verdict.specs.declared.Verdict.{Verdict}
-use Rattle.verdict.specs.Steps.{Explained}
 use Rattle.output.specs.Output.{Fills}
 use Rattle.output.specs.declared.Filled.{Filled}
 use Rattle.output.specs.declared.Filled.the-variants.{Refused}
@@ -32,11 +29,3 @@ module _ (f : List ℕ) (l : LoadsAs source f) where
 -- A verdict on the bytes of the translation.
 pub chip-judged : (f g : List ℕ) (v : Verdict) → g ≡ translation f → OnChip g v → OnChip (translation f) v
 chip-judged f g v e on = subst (λ (b : List ℕ). OnChip b v) e on
-
-pub chip-judged-as : (f g : List ℕ) (v : Verdict) → g ≡ translation f → OnChip (translation f) v → OnChip g v
-chip-judged-as f g v e on = subst (λ (b : List ℕ). OnChip b v) (sym e) on
-
--- Steps on the bytes of the translation.
-pub chip-explained : (f g : List ℕ) (cs : List Clause) (l : List ℕ) (steps : List (List ℕ)) → g ≡ translation f → Explained cs (decode g) l steps
-    → Explained cs (decode (translation f)) l steps
-chip-explained f g cs l steps e w = subst (λ (b : List ℕ). Explained cs (decode b) l steps) e w

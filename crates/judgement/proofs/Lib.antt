@@ -3,4 +3,3 @@ pub mod ChipLaws
 pub mod PrintLaws
 pub mod TextLaws
 pub mod PageLaws
-pub mod WhyLaws

@@ -1,3 +1,2 @@
 -- The definitions that the contracts of `judgement` cite.
 pub mod Judgement
-pub mod Why

@@ -1,7 +1,6 @@
 // The judgement of a file as a whole: the verdicts of all models, the lines that the judge prints, and the page.
 
 pub mod page;
-pub mod why;
 
 use lines::Model;
 use lines::Text;

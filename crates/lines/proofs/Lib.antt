@@ -1,5 +1,4 @@
 -- Laws that the proofs of `lines` share.
 pub mod PutLaws
 pub mod LineLaws
-pub mod NameLaws
 pub mod Examples

@@ -1,8 +1,6 @@
 // The lines that the judge prints, as bytes: a line is made in a text.
 // The line is that of specs/Lines.antt; nothing is assumed of a verdict but that it shows at most 64 events.
 
-pub mod step;
-
 use verdict::Answer;
 use verdict::Verdict;
 ghost use mathlib.Core.Path.{_≡_};
@@ -37,7 +35,7 @@ fn empty() -> Text
 }
 
 // t and then the byte b.
-fn put(t: Text, b: u8) -> Text
+pub fn put(t: Text, b: u8) -> Text
     requires { ⌜ Room t 1 ⌝ }
     ensures { λ r. ⌜ Put t (b ∷ []) r ⌝ }
 {
@@ -77,7 +75,7 @@ fn put_decimal(t: Text, n: u8) -> Text
 }
 
 // t and then a space and n in decimal, at most four bytes.
-fn put_number(t: Text, n: u8) -> Text
+pub fn put_number(t: Text, n: u8) -> Text
     requires { ⌜ Room t 4 ⌝ }
     ensures put { λ r. ⌜ Put t (32 ∷ decimal n) r ⌝ }
     ensures short { λ r. ⌜ r .len ≤ t .len + 4 ⌝ }
@@ -102,7 +100,7 @@ fn put_events(t: Text, at: [u8; 64], len: usize) -> Text
 }
 
 // The model's word.
-fn word(model: Model) -> Text
+pub fn word(model: Model) -> Text
     ensures word { λ r. ⌜ bytes r ≡ modelWord model ⌝ }
     ensures short { λ r. ⌜ r .len ≤ 6 ⌝ }
 {

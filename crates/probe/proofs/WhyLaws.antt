@@ -16,7 +16,7 @@ use Rattle.recording.specs.Load.{causeFor}
 use Rattle.recording.proofs.CauseLaws.{cause-own}
 use Rattle.verdict.specs.declared.Verdict.{Verdict}
 use Rattle.verdict.specs.Answer.{refuses, answers, refusalOf, ruleOf}
-use Rattle.verdict.specs.Steps.{ring, Explained}
+use Rattle.clause.specs.Steps.{ring, Explained}
 use Rattle.execution.specs.OnFile.{OnRecording}
 use Rattle.execution.proofs.BaseOf.{on-refused, on-loaded}
 use Rattle.imm.specs.Judged as imm

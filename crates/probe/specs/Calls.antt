@@ -13,7 +13,7 @@ use Rattle.recording.specs.Load.{LoadsAs}
 use Rattle.verdict.specs.declared.Verdict.{Verdict}
 use Rattle.verdict.specs.Answer.{refusalOf, ruleOf}
 use Rattle.verdict.specs.Shown.{events}
-use Rattle.verdict.specs.Steps.{ring, Explained}
+use Rattle.clause.specs.Steps.{ring, Explained}
 use Rattle.execution.specs.OnFile.{OnFile}
 use Rattle.imm.specs.Judged as imm
 use Rattle.armv8.specs.Judged as armv8

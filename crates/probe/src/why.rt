@@ -2,11 +2,10 @@
 
 use crate::answered;
 use crate::coded;
+use clause::Steps;
 use layout::kind;
 use recording::causes;
 use verdict::Verdict;
-use verdict::clause;
-use verdict::clause::Steps;
 ghost use mathlib.Core.Path.{_≡_};
 ghost use mathlib.Core.List.{[]};
 ghost use Prim.Native.Nat.{_*_, _≤_};
@@ -18,7 +17,7 @@ ghost use Rattle.imm.specs.Judged as imm;
 ghost use Rattle.armv8.specs.Judged as armv8;
 ghost use Rattle.tso.specs.Judged as tso;
 ghost use Rattle.verdict.specs.Answer.{ruleOf};
-ghost use Rattle.verdict.specs.Steps.{ring};
+ghost use Rattle.clause.specs.Steps.{ring};
 ghost use Rattle.probe.specs.Calls.{Stored, bytesOf, Explains, causeForNone};
 
 // The first n steps, one behind the other.

@@ -1,6 +1,7 @@
 // The relation of rule 5 of x86-TSO, line by line of its definition.
 // Each contract holds for every base that the arguments are taken from.
 
+use clause::Clauses;
 use relation::grid;
 use relation::grid::Grid;
 use relation::row;
@@ -8,8 +9,6 @@ use relation::row::Row;
 use verdict::base;
 use verdict::base::Relations;
 use verdict::base::Sets;
-use verdict::clause;
-use verdict::clause::Clauses;
 ghost use mathlib.Core.Path.{_≡_};
 ghost use Rattle.relation.specs.Rel.{identity, nodes};
 ghost use Rattle.relation.specs.Bits.{bit, edge};
@@ -19,7 +18,7 @@ ghost use Rattle.models.specs.Term.{eval};
 ghost use Rattle.models.specs.Term as term;
 ghost use Rattle.models.specs.Tso as tso;
 ghost use Rattle.verdict.specs.Base.{baseOf};
-ghost use Rattle.verdict.specs.Steps.{Held};
+ghost use Rattle.clause.specs.Steps.{Held};
 
 // The clauses of ppo: [R] ; po ; ([R] ∪ [W]), [W] ; po ; [W]
 fn ppo(reads: Row, writes: Row, po: Grid) -> [Grid; 2]

@@ -1,20 +1,18 @@
 // The clauses by which the steps of a ring are explained, and the steps.
 
 use crate::order;
+use clause::Clauses;
+use clause::Steps;
 use verdict::Verdict;
 use verdict::base;
 use verdict::base::Relations;
 use verdict::base::Sets;
-use verdict::clause;
-use verdict::clause::Clauses;
-use verdict::clause::Steps;
-use verdict::per_location;
 use verdict::rules;
 ghost use Prim.Native.Nat.{_≤_};
 ghost use Rattle.models.specs.Why.{clausesOf, tsoRingClauses};
 ghost use Rattle.verdict.specs.Base.{baseOf};
 ghost use Rattle.verdict.specs.Answer.{ruleOf};
-ghost use Rattle.verdict.specs.Steps.{Held, StepsBy};
+ghost use Rattle.clause.specs.Steps.{Held, StepsBy};
 
 // The clauses of a rule by its number.
 fn clauses(sets: Sets, relations: Relations, rule: u8) -> Clauses
@@ -25,7 +23,7 @@ fn clauses(sets: Sets, relations: Relations, rule: u8) -> Clauses
     let co = relations[base::CO];
     let fr = rules::fr(rf, co);
     if rule == 3 {
-        return per_location::clauses(po, relations[base::LOC], rf, fr, co);
+        return clause::per_location(po, relations[base::LOC], rf, fr, co);
     }
     if rule == 5 {
         return order::clauses(sets, relations, fr);

@@ -4,5 +4,3 @@ pub mod PairLaws
 pub mod ShownLaws
 pub mod ShownMeaning
 pub mod FewestSteps
-pub mod StepLaws
-pub mod StepMeaning

@@ -3,4 +3,3 @@ pub mod Answer
 pub mod Base
 pub mod Shown
 pub mod PerLocation
-pub mod Steps

@@ -3,7 +3,6 @@
 // The rules are those of `models`. Nothing here knows a model; `per_location` serves every one whose rule 3 is SC-per-location.
 
 pub mod base;
-pub mod clause;
 pub mod per_location;
 pub mod rules;
 pub mod shown;

@@ -1,10 +1,9 @@
-// Rules 1 to 4 of the models whose rule 3 is SC-per-location, ARMv8 and x86-TSO, and the clauses of rule 3.
+// Rules 1 to 4 of the models whose rule 3 is SC-per-location: ARMv8 and x86-TSO.
 
 use crate::Verdict;
 use crate::base;
 use crate::base::Relations;
 use crate::base::Sets;
-use crate::clause::Clauses;
 use crate::shown::atomicity;
 use crate::shown::coherence;
 use crate::shown::completeness;
@@ -13,13 +12,10 @@ use relation::grid::Grid;
 ghost use mathlib.Core.Path.{_≡_};
 ghost use Rattle.relation.specs.Rel.{nodes};
 ghost use Rattle.relation.specs.Bits.{edge};
-ghost use Rattle.models.specs.Graph.{Base};
 ghost use Rattle.models.specs.Term.{Term, eval};
 ghost use Rattle.models.specs.Term as term;
-ghost use Rattle.models.specs.Armv8.{scPerLocClauses};
 ghost use Rattle.verdict.specs.Base.{baseOf};
 ghost use Rattle.verdict.specs.PerLocation.{TriedPerLocation};
-ghost use Rattle.verdict.specs.Steps.{Held};
 
 // Rules 1 to 4, whatever the relation of rule 5 is.
 pub fn tried(sets: Sets, relations: Relations, fr: Grid) -> Verdict
@@ -46,29 +42,4 @@ pub fn tried(sets: Sets, relations: Relations, fr: Grid) -> Verdict
         grid::minus(fr, po),
         grid::minus(co, po),
     )
-}
-
-// The clauses of rule 3: po-loc, rf, fr, co
-pub fn clauses(po: Grid, loc: Grid, rf: Grid, fr: Grid, co: Grid) -> Clauses
-    ensures { λ r. ⌜ ((B : Base) → edge po ≡ B .po → edge loc ≡ B .loc → edge rf ≡ B .rf → edge fr ≡ eval nodes term.fr B → edge co ≡ B .co
-        → Held 14 scPerLocClauses B r) ⌝ }
-{
-    let poloc = grid::and(po, loc);
-    let none = grid::empty();
-    [
-        poloc,
-        rf,
-        fr,
-        co,
-        none,
-        none,
-        none,
-        none,
-        none,
-        none,
-        none,
-        none,
-        none,
-        none,
-    ]
 }

@@ -6,7 +6,7 @@ use recording::INPUT;
 fn main() {
     let mut start = [0u8; INPUT];
     let n = console::read(&mut start);
-    let text = judgement::why::of_input(start, n);
+    let text = explanation::of_input(start, n);
     let at = text.at;
     let len = text.len;
     console::write(STDOUT_FILENO, &at[..len]);

@@ -2,6 +2,7 @@
 
 pub type OfFile = unsafe extern "C" fn(*const u8, usize, *mut u8, usize) -> u64;
 pub type OfRing = unsafe extern "C" fn(*const u8, usize, *const u8, usize, *mut u8, usize) -> u64;
+pub type OfModel = unsafe extern "C" fn(*const u8, usize, u64, *mut u8, usize) -> u64;
 
 const GUARD: usize = 64;
 pub const MOST: usize = 1500;
@@ -19,11 +20,12 @@ fn wrong(what: &str) -> Answer {
     Answer { refusal: 0, rule: 0, bytes: what.as_bytes().to_vec() }
 }
 
-/// A call with what it reads: a file, or a file and a ring.
+/// A call with what it reads: a file, or a file and a ring; or a file, with the number of a model.
 #[derive(Clone, Copy)]
 pub enum Call<'a> {
     OfFile(OfFile, &'a [u8]),
     OfRing(OfRing, &'a [u8], &'a [u8]),
+    OfModel(OfModel, &'a [u8], u64),
 }
 
 impl Call<'_> {
@@ -32,6 +34,7 @@ impl Call<'_> {
         // SAFETY: the pointers and lengths are those of copies and of an output that lie apart.
         match self {
             Call::OfFile(call, file) => reading(file, |at| unsafe { call(at, file.len(), out, room) }),
+            Call::OfModel(call, file, model) => reading(file, |at| unsafe { call(at, file.len(), model, out, room) }),
             Call::OfRing(call, file, ring) => reading(file, |file_at| {
                 reading(ring, |at| unsafe { call(file_at, file.len(), at, ring.len(), out, room) })
             })

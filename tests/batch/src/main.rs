@@ -1,6 +1,7 @@
 //! The batch driver over the probe's static library.
 //!
 //!     batch load | translate | translate-rooms | judge | judge-rooms | verdicts | verdicts-rooms | own-ring < FILES
+//!     batch why | why-rooms | why-models < FILES
 //!     batch page | page-rooms < FILES_AND_RINGS
 //!
 //! reads one file a line in hexadecimal (an empty line is the empty file), for a page FILE<TAB>RING, and writes one answer a line:
@@ -8,12 +9,15 @@
 //! `judge` what the judge prints, with `;` for a line feed, and `verdicts` the same, made of what the calls for the verdicts answer, each with
 //! an output of 64 bytes.
 //! `own-ring` writes FILE<TAB>RING: the events of a broken verdict of the file's own kind, none if it is allowed or refused.
+//! `why` writes what the program why prints, with `/` for a line feed, made of what the call for it answers for each model, with an output
+//! of 192 bytes; `why-models` writes `refused K`, which all models but those of the file's kind answer.
 //! Every output lies between guard bytes. With `-rooms` it is lent three times: longer than the answer, as long, and one byte shorter.
 
 #[path = "../../shared/hex.rs"]
 mod hex;
 mod lent;
 mod verdicts;
+mod why;
 
 use hex::{from_hex, to_hex, with_ring};
 use lent::{at_each_room, lent, Answer, Call, MOST};
@@ -21,6 +25,7 @@ use std::io::{self, BufRead, BufWriter, Write};
 use std::process::exit;
 
 const USAGE: &str = "usage: batch load | translate | translate-rooms | judge | judge-rooms | verdicts | verdicts-rooms | own-ring < FILES
+       batch why | why-rooms | why-models < FILES
        batch page | page-rooms < FILES_AND_RINGS";
 
 extern "C" {
@@ -70,6 +75,9 @@ fn named(word: &str) -> Option<Word> {
         "verdicts" => Word::OfFile(|file| verdicts::lines(file, lent)),
         "verdicts-rooms" => Word::OfFile(|file| verdicts::lines(file, |call, _| at_each_room(call))),
         "own-ring" => Word::OfFile(|file| format!("{}\t{}", to_hex(file), to_hex(&verdicts::own_ring(file)))),
+        "why" => Word::OfFile(|file| why::lines(file, lent)),
+        "why-rooms" => Word::OfFile(|file| why::lines(file, |call, _| at_each_room(call))),
+        "why-models" => Word::OfFile(why::other_models),
         "page" => Word::OfRing(|file, ring| written(lent(Call::OfRing(probe_page, file, ring), MOST))),
         "page-rooms" => Word::OfRing(|file, ring| written(at_each_room(Call::OfRing(probe_page, file, ring)))),
         _ => return None,

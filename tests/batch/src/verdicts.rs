@@ -4,24 +4,29 @@ use crate::lent::{lent, Answer, Call, MOST};
 use crate::probe_translate;
 
 /// The most bytes that a verdict writes.
-const ROOM: usize = 64;
+pub const ROOM: usize = 64;
 
 /// The answer of a call whose output is lent with so much room, or in some other way.
-type Lending = fn(Call, usize) -> Answer;
+pub type Lending = fn(Call, usize) -> Answer;
 
 extern "C" {
-    fn probe_imm(file: *const u8, len: usize, out: *mut u8, room: usize) -> u64;
-    fn probe_armv8(file: *const u8, len: usize, out: *mut u8, room: usize) -> u64;
-    fn probe_tso(file: *const u8, len: usize, out: *mut u8, room: usize) -> u64;
+    pub fn probe_imm(file: *const u8, len: usize, out: *mut u8, room: usize) -> u64;
+    pub fn probe_armv8(file: *const u8, len: usize, out: *mut u8, room: usize) -> u64;
+    pub fn probe_tso(file: *const u8, len: usize, out: *mut u8, room: usize) -> u64;
 }
 
-fn line(model: &str, verdict: &Answer) -> String {
-    let word = match verdict.rule {
+/// The line of a rule and the events that are shown, without its line feed.
+pub fn line_of(model: &str, rule: u64, events: &[u8]) -> String {
+    let word = match rule {
         0 => "allowed".to_string(),
         rule => format!("broken {rule}"),
     };
-    let events: String = verdict.bytes.iter().map(|e| format!(" {e}")).collect();
-    format!("{model} {word}{events};")
+    let events: String = events.iter().map(|e| format!(" {e}")).collect();
+    format!("{model} {word}{events}")
+}
+
+fn line(model: &str, verdict: &Answer) -> String {
+    line_of(model, verdict.rule, &verdict.bytes) + ";"
 }
 
 /// The lines of a source file whose verdicts under IMM and x86-TSO are given.

@@ -7,6 +7,7 @@ use crate::boundary_rings;
 use crate::boundary_several;
 use crate::boundary_threads;
 use crate::boundary_tso;
+use crate::boundary_why;
 use crate::handmade::*;
 
 pub fn cases() -> Vec<Case> {
@@ -24,6 +25,7 @@ pub fn cases() -> Vec<Case> {
     boundary_several::add(&mut cases);
     boundary_rings::add(&mut cases);
     boundary_tso::add(&mut cases);
+    boundary_why::add(&mut cases);
     cases.0
 }
 

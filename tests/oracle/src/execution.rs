@@ -96,6 +96,12 @@ impl Execution {
         }
     }
 
+    /// What an event is.
+    pub fn label(&self, number: u8) -> &Label {
+        let place = self.labels.binary_search_by_key(&number, |l| l.number);
+        &self.labels[place.unwrap_or_else(|_| panic!("{number} is no event"))]
+    }
+
     /// [A] for the set A of events whose label passes the test.
     pub fn on(&self, test: impl Fn(&Label) -> bool) -> Relation {
         let members: Vec<u8> = self.labels.iter().filter(|l| test(l)).map(|l| l.number).collect();

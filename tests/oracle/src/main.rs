@@ -1,5 +1,5 @@
 //! The oracle's command line.
-//! Files are lines of lower-case hexadecimal digits; in an answer `;` stands for a line feed.
+//! Files are lines of lower-case hexadecimal digits; in an answer `;` stands for a line feed, in one of why `/`, as clauses have `;`.
 
 mod altered;
 mod boundary;
@@ -9,6 +9,8 @@ mod boundary_rings;
 mod boundary_several;
 mod boundary_threads;
 mod boundary_tso;
+mod boundary_why;
+mod clauses;
 mod damage;
 mod demand3;
 mod draft;
@@ -25,6 +27,7 @@ mod hex;
 mod lent_rings;
 mod litmus;
 mod models;
+mod notation;
 mod page;
 #[path = "../../shared/random.rs"]
 mod random;
@@ -41,16 +44,19 @@ mod rules;
 mod selftest;
 mod selftest_numbering;
 mod selftest_rings;
+mod selftest_why;
 mod shaped;
 mod shown;
 mod sketch;
 mod translation;
+mod why;
 mod worked;
 mod worked_isb;
 mod worked_numbering;
 mod worked_pages;
 mod worked_rings;
 mod worked_tso;
+mod worked_why;
 
 use handmade::{bytes, outcome};
 use hex::{from_hex, to_hex, with_ring};
@@ -63,6 +69,9 @@ const USAGE: &str = "usage: oracle COMMAND
   load               files in, `loads` or `refused K` out
   page               lines FILE<TAB>RING in, the page's bytes or `refused K` out
   check              lines FILE<TAB>ANSWER in, differences out; status 1 if there are any
+  why                files in, what why prints out
+  check-why          as check, of what why prints
+  clauses            lines MODEL RULE NAME: the clauses of each list in their order
   generate SEED N    N random files
   rings SEED         files in, lines FILE<TAB>RING out, with random rings
   renumber SEED      files in, a renumbered copy of each or `refused K` out
@@ -72,7 +81,7 @@ const USAGE: &str = "usage: oracle COMMAND
   demand3 SEED N     demand 3, and the claim for x86-TSO, on N random source recordings
   selftest           the oracle's own tests";
 
-/// `check` prints this many differences.
+/// `check` and `check-why` print this many differences.
 const MOST_SHOWN: usize = 20;
 
 fn main() {
@@ -84,7 +93,12 @@ fn main() {
         ["translate"] => each_file(&mut out, |file| written_or_refused(translation::translate(file))),
         ["load"] => each_file(&mut out, |file| outcome(recording::load(file).err().unwrap_or(0))),
         ["page"] => pages(&mut out),
-        ["check"] => check(&mut out),
+        ["check"] => check(&mut out, shown::answer, shown::fault),
+        ["why"] => each_file(&mut out, why::answer),
+        ["check-why"] => check(&mut out, why::answer, why::fault),
+        ["clauses"] => clauses::LISTS.iter().try_for_each(|&(model, rule, list)| {
+            list.iter().try_for_each(|(name, _)| writeln!(out, "{model} {rule} {name}"))
+        }),
         ["generate", seed, count] => generate(&mut out, number(seed), number(count)),
         ["rings", seed] => rings(&mut out, number(seed)),
         ["renumber", seed] => renumber(&mut out, number(seed)),
@@ -198,8 +212,8 @@ fn renumbered(out: &mut impl Write) -> io::Result<()> {
     Ok(())
 }
 
-/// Compares another program's answers with the papers.
-fn check(out: &mut impl Write) -> io::Result<()> {
+/// Compares another program's answers with the papers: `ours` answers a file, and `fault` says why an answer is wrong.
+fn check(out: &mut impl Write, ours: fn(&[u8]) -> String, fault: fn(&[u8], &str) -> Option<String>) -> io::Result<()> {
     let (mut compared, mut different) = (0, 0);
     for line in lines() {
         let Some((hex, theirs)) = line.split_once('\t') else {
@@ -208,10 +222,10 @@ fn check(out: &mut impl Write) -> io::Result<()> {
         };
         let file = file_of(hex);
         compared += 1;
-        if let Some(why) = shown::fault(&file, theirs) {
+        if let Some(why) = fault(&file, theirs) {
             different += 1;
             if different <= MOST_SHOWN {
-                writeln!(out, "{hex}\n  theirs {theirs}\n  ours   {}\n  why    {why}", shown::answer(&file))?;
+                writeln!(out, "{hex}\n  theirs {theirs}\n  ours   {}\n  why    {why}", ours(&file))?;
             }
         }
     }

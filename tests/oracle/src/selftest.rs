@@ -1,5 +1,5 @@
 //! The oracle's own tests: boundary files, litmus rows, worked examples, rings, pages, operators, its own answers, renumbered copies,
-//! and what generated files and rings reach.
+//! clauses, and what generated files and rings reach.
 
 use crate::boundary;
 use crate::boundary_rings;
@@ -21,6 +21,7 @@ use crate::relation::*;
 use crate::rules::{ring_fault, Verdict};
 use crate::selftest_numbering;
 use crate::selftest_rings;
+use crate::selftest_why;
 use crate::shown::{answer, fault, line_fault, verdicts};
 use crate::translation::translate;
 use crate::worked;
@@ -78,6 +79,7 @@ pub fn run() -> bool {
     selftest_rings::run(&mut tally);
     own_answers(&mut tally);
     selftest_numbering::run(&mut tally);
+    selftest_why::run(&mut tally);
     generated_files(&mut tally);
     generated_pages(&mut tally);
     generated_barriers(&mut tally);

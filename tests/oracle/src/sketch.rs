@@ -13,6 +13,8 @@ pub const CO: u8 = 2;
 pub const RMW: u8 = 3;
 pub const DATA: u8 = 4;
 pub const ADDR: u8 = 5;
+pub const CTRL: u8 = 6;
+pub const CASDEP: u8 = 7;
 
 /// Threads are counted from 0.
 pub struct Sketch {

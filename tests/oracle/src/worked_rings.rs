@@ -4,7 +4,7 @@
 use crate::worked::{NEWER_FIRST, ONE_EVENT, STALE};
 
 /// 1 W x 1 || 2 R x 1; 3 R x 1; 4 R x 0. fr leads from 4 to 1, eco from 4 to 2 and 3 too.
-const OLDER_LAST: &str = "01 04 01 03 01 02 00 00 | 00 02 00 00 00 01 00 00 | 03 01 00 00 00 01 00 01
+pub const OLDER_LAST: &str = "01 04 01 03 01 02 00 00 | 00 02 00 00 00 01 00 00 | 03 01 00 00 00 01 00 01
     | 04 01 00 00 00 01 00 02 | 00 01 00 00 00 00 00 03 | 00 01 01 00 | 00 01 01 00 | 00 01 38 00";
 /// 1 R acquire x 1; 2 W z 1; 3 W release y 1 || 4 R acquire y 1; 5 W release x 1. sw leads from 3 to 4 and from 5 to 1.
 const LOADS: &str = "01 05 03 02 01 04 00 00 | 02 01 01 00 00 01 00 01 | 03 02 00 00 02 01 00 00 | 00 02 02 00 01 01 00 00

@@ -4,7 +4,7 @@ use mathlib.Core.List.{[], _∷_}
 use Rattle.models.specs.Term.{eval}
 use Rattle.models.specs.Armv8.{dobClauses, aobClauses, bobClauses}
 use Rattle.verdict.specs.Base.{baseOf}
-use Rattle.verdict.proofs.StepLaws.{held-at}
+use Rattle.clause.proofs.StepLaws.{held-at}
 use borrow.Author.Needs.{needs}
 use Rattle.armv8.proofs.ob.clauses.Statement.{statement}
 use Rattle.armv8.proofs.ob.clauses.Tie as tie

@@ -3,7 +3,7 @@ use Rattle.relation.specs.Rel.{nodes}
 use Rattle.models.specs.Armv8.{ob, obClauses}
 use Rattle.models.proofs.ClauseLaws.{ob-opened}
 use Rattle.verdict.specs.Base.{baseOf}
-use Rattle.verdict.proofs.StepLaws.{held-union}
+use Rattle.clause.proofs.StepLaws.{held-union}
 use borrow.Author.Needs.{needs}
 use Rattle.armv8.proofs.ob.ob.Statement.{statement}
 use Rattle.armv8.proofs.ob.ob.Tie as tie

@@ -7,7 +7,7 @@ use Rattle.models.specs.Term.{eval, fr, frₑ}
 use Rattle.models.specs.Why.{armv8Clauses}
 use Rattle.verdict.specs.Base.{baseOf}
 use Rattle.verdict.proofs.TermLaws.{holds, given, is-minus}
-use Rattle.verdict.proofs.StepLaws.{held-3, held-5, held-none}
+use Rattle.clause.proofs.StepLaws.{held-3, held-5, held-none}
 use borrow.Author.Needs.{needs}
 use Rattle.armv8.proofs.why.clauses.Statement.{statement}
 use Rattle.armv8.proofs.why.clauses.Tie as tie
@@ -24,7 +24,7 @@ unfolding baseOf
 returns c =
     let then1 = c .before .before in
     let B = base (then1 .before) in
-    held-3 armv8Clauses B _ _ (then1 .if1 .taken) (c .clauses .ensures B refl refl refl (fr-is (then1 .before)) refl)
+    held-3 armv8Clauses B _ _ (then1 .if1 .taken) (c .per-location .ensures B refl refl refl (fr-is (then1 .before)) refl)
 
 returns-2 : tie.Need-returns-2
 unfolding eval baseOf
@@ -34,7 +34,7 @@ returns-2 c =
     let after-fr = then2 .before .before in
     let B = base after-fr in
     let fre = holds B frₑ (is-minus (given (fr-is after-fr)) (given refl) (after-minus2 .before .minus .ensures)) in
-    held-5 armv8Clauses B _ _ (then2 .if2 .taken) (c .clauses2 .ensures fre (after-minus2 .minus2 .ensures))
+    held-5 armv8Clauses B _ _ (then2 .if2 .taken) (c .clauses .ensures fre (after-minus2 .minus2 .ensures))
 
 returns-3 : tie.Need-returns-3
 returns-3 c = held-none armv8Clauses (base (c .before .before .before)) _ _ (c .before .before .if1 .left) (c .before .if2 .left) (c .none .ensures _)

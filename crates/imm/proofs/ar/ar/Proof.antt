@@ -3,7 +3,7 @@ use Rattle.relation.specs.Rel.{nodes}
 use Rattle.models.specs.Imm.{ar, arClauses}
 use Rattle.models.proofs.ClauseLaws.{ar-opened}
 use Rattle.verdict.specs.Base.{baseOf}
-use Rattle.verdict.proofs.StepLaws.{held-union}
+use Rattle.clause.proofs.StepLaws.{held-union}
 use borrow.Author.Needs.{needs}
 use Rattle.imm.proofs.ar.ar.Statement.{statement}
 use Rattle.imm.proofs.ar.ar.Tie as tie

@@ -6,7 +6,7 @@ use Rattle.models.specs.Term.{eval, po, ⟨_⟩, _⨾_}
 use Rattle.models.specs.Imm.{bobClauses}
 use Rattle.verdict.specs.Base.{baseOf}
 use Rattle.verdict.proofs.TermLaws.{holds, given, is-from, is-into}
-use Rattle.verdict.proofs.StepLaws.{held-at}
+use Rattle.clause.proofs.StepLaws.{held-at}
 use borrow.Author.Needs.{needs}
 use Rattle.imm.proofs.ar.clauses.Statement.{statement}
 use Rattle.imm.proofs.ar.clauses.Tie as tie

@@ -1,5 +1,5 @@
 -- `why::clauses` meets its contract, by the rule.
-use Rattle.verdict.proofs.StepLaws.{held-3, held-5, held-none}
+use Rattle.clause.proofs.StepLaws.{held-3, held-5, held-none}
 use borrow.Author.Needs.{needs}
 use Rattle.imm.proofs.why.clauses.Statement.{statement}
 use Rattle.imm.proofs.why.clauses.Tie as tie

@@ -4,7 +4,7 @@ use mathlib.Core.List.{[], _∷_}
 use Rattle.models.specs.Term.{eval}
 use Rattle.models.specs.Tso.{ppoClauses, fencedClauses}
 use Rattle.verdict.specs.Base.{baseOf}
-use Rattle.verdict.proofs.StepLaws.{held-at}
+use Rattle.clause.proofs.StepLaws.{held-at}
 use borrow.Author.Needs.{needs}
 use Rattle.tso.proofs.order.clauses.Statement.{statement}
 use Rattle.tso.proofs.order.clauses.Tie as tie

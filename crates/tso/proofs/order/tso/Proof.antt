@@ -3,7 +3,7 @@ use Rattle.relation.specs.Rel.{nodes}
 use Rattle.models.specs.Tso.{tso, tsoClauses}
 use Rattle.models.proofs.ClauseLaws.{tso-opened}
 use Rattle.verdict.specs.Base.{baseOf}
-use Rattle.verdict.proofs.StepLaws.{held-union}
+use Rattle.clause.proofs.StepLaws.{held-union}
 use borrow.Author.Needs.{needs}
 use Rattle.tso.proofs.order.tso.Statement.{statement}
 use Rattle.tso.proofs.order.tso.Tie as tie

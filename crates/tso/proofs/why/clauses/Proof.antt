@@ -6,7 +6,7 @@ use Rattle.models.specs.Graph.{Base}
 use Rattle.models.specs.Term.{eval, fr}
 use Rattle.models.specs.Why.{tsoRingClauses}
 use Rattle.verdict.specs.Base.{baseOf}
-use Rattle.verdict.proofs.StepLaws.{held-3, held-5, held-none}
+use Rattle.clause.proofs.StepLaws.{held-3, held-5, held-none}
 use borrow.Author.Needs.{needs}
 use Rattle.tso.proofs.why.clauses.Statement.{statement}
 use Rattle.tso.proofs.why.clauses.Tie as tie
@@ -23,11 +23,11 @@ unfolding baseOf
 returns c =
     let then1 = c .before .before in
     let B = base (then1 .before) in
-    held-3 tsoRingClauses B _ _ (then1 .if1 .taken) (c .clauses .ensures B refl refl refl (fr-is (then1 .before)) refl)
+    held-3 tsoRingClauses B _ _ (then1 .if1 .taken) (c .per-location .ensures B refl refl refl (fr-is (then1 .before)) refl)
 
 returns-2 : tie.Need-returns-2
 unfolding baseOf
-returns-2 c = (let after-fr = c .before .before .before in held-5 tsoRingClauses (base after-fr) _ _ (c .before .if2 .taken) (c .clauses2 .ensures (fr-is after-fr)))
+returns-2 c = (let after-fr = c .before .before .before in held-5 tsoRingClauses (base after-fr) _ _ (c .before .if2 .taken) (c .clauses .ensures (fr-is after-fr)))
 
 returns-3 : tie.Need-returns-3
 returns-3 c = held-none tsoRingClauses (base (c .before .before .before)) _ _ (c .before .before .if1 .left) (c .before .if2 .left) (c .none .ensures _)

@@ -1,5 +1,5 @@
 -- `why::why` meets its contract: the clauses of the broken rule explain the steps.
-use Rattle.verdict.proofs.StepLaws.{held-rule}
+use Rattle.clause.proofs.StepLaws.{held-rule}
 use borrow.Author.Needs.{needs}
 use Rattle.tso.proofs.why.why.Statement.{statement}
 use Rattle.tso.proofs.why.why.Tie as tie

@@ -1,0 +1,3 @@
+-- Laws that the proofs of `clause` and of the models share.
+pub mod StepLaws
+pub mod StepMeaning

@@ -1,0 +1,2 @@
+-- The definitions that the contracts of `clause` cite.
+pub mod Steps

@@ -1,0 +1,3 @@
+-- Laws that the proofs of `explanation` share.
+pub mod NameLaws
+pub mod WhyLaws
