@@ -1,7 +1,7 @@
 -- Laws of clauses as grids and of the steps of a ring, for the loops over them.
-use mathlib.Core.Bool.{Bool, true, false, _||_}
+use mathlib.Core.Bool.{Bool, true, false}
 use mathlib.Core.Path.{_≡_, refl, sym, ap, subst, _∙_, fun-ext}
-use mathlib.Core.List.{List, [], _∷_, _++_, map, append-nil}
+use mathlib.Core.List.{List, [], _∷_, _++_, map}
 use Prim.Native.Nat.{ℕ, zero, suc, _+_, _-_, _<_, _≤_}
 use native.Mathlib.Numerals.{add-one}
 use native.Mathlib.Omega.{arith}
@@ -11,6 +11,7 @@ use lib.Seq.{take-suc-set, drop-cons, getD-take, length-take-le}
 use Rattle.relation.specs.Rel.{Rel, none, empty, union, either, nodes}
 use Rattle.relation.specs.Bits.{edge}
 use Rattle.relation.specs.Ring.{after}
+use Rattle.relation.proofs.SetLaws.{or-false, or-assoc}
 use Rattle.relation.proofs.RingWalks.{getD-any}
 use Rattle.models.specs.Graph.{Base}
 use Rattle.models.specs.Term.{Term, eval}
@@ -57,28 +58,20 @@ module _ (grids : List (List (List ℕ))) where
   unfolding unions either union
   joined-more k r z h p e = record { join = joined }
     where
-      assoc : (a b c : Bool) → ((a || b) || c) ≡ (a || (b || c))
-      assoc true b c = refl
-      assoc false b c = refl
-
       joined : either z (unions (map edge (drop (k + 1) grids))) ≡ unions (map edge grids)
       joined =
           ap (λ (n : ℕ). either z (unions (map edge (drop n grids)))) (add-one k)
           ∙ ap (λ (s : Rel). either s (unions (map edge (drop (suc k) grids)))) e
-          ∙ fun-ext (λ i. fun-ext (λ j. assoc (r i j) (edge (getD grids k []) i j) (unions (map edge (drop (suc k) grids)) i j)))
+          ∙ fun-ext (λ i. fun-ext (λ j. or-assoc (r i j) (edge (getD grids k []) i j) (unions (map edge (drop (suc k) grids)) i j)))
           ∙ ap (λ (l : List (List (List ℕ))). either r (unions (map edge l))) (sym (drop-cons grids k [] h))
           ∙ p .join
 
   pub joined-all : (k : ℕ) (r : Rel) → length grids ≤ k → Joined k r → r ≡ unions (map edge grids)
   unfolding unions either union none empty
   joined-all k r h p =
-      fun-ext (λ i. fun-ext (λ j. alone (r i j)))
+      fun-ext (λ i. fun-ext (λ j. sym (or-false (r i j))))
       ∙ ap (λ (l : List (List (List ℕ))). either r (unions (map edge l))) (sym (drop-of-length-le grids h))
       ∙ p .join
-    where
-      alone : (a : Bool) → a ≡ (a || false)
-      alone true = refl
-      alone false = refl
 
 -- The event after place k, where another follows and where the ring closes.
 module _ (at : List ℕ) (n k : ℕ) (long : length at ≡ 64) (few : n ≤ 64) where
@@ -151,12 +144,8 @@ module _ (size : ℕ) (cs : List Clause) (B : Base) (grids : List (List (List �
       ∙ ap unions (w .clauses)
       ∙ unions-both (tested nodes B cs) (nones (size - length cs))
       ∙ ap (either (unions (tested nodes B cs))) (unions-nones (size - length cs))
-      ∙ fun-ext (λ i. fun-ext (λ j. alone (unions (tested nodes B cs) i j)))
+      ∙ fun-ext (λ i. fun-ext (λ j. or-false (unions (tested nodes B cs) i j)))
       ∙ sym opened
-    where
-      alone : (a : Bool) → (a || false) ≡ a
-      alone true = refl
-      alone false = refl
 
   -- The steps of the ring of a verdict by grids are those by the tests that the grids hold.
   pub steps-by : (v : Verdict) (n : ℕ) (s : List (List ℕ)) → take n (v .at) ≡ ring v → n ≡ length (ring v) → take n s ≡ stepsOf (numberFrom 1 (map edge grids)) (take n (v .at))

@@ -1,5 +1,5 @@
 -- The steps of a ring by the tests of clauses are those by the execution graph: each has a clause, and its number is that of the first.
-use mathlib.Core.Bool.{true, false}
+use mathlib.Core.Bool.{true}
 use mathlib.Core.Path.{_≡_, refl, sym, ap, subst, _∙_}
 use mathlib.Core.List.{List, []}
 use Prim.Native.Nat.{ℕ, zero, suc, _<_}
@@ -10,10 +10,10 @@ use lib.ListN.{length, getD, take}
 use Rattle.relation.specs.Rel.{Rel, nodes}
 use Rattle.relation.specs.Ring.{after, Ring}
 use Rattle.models.specs.Recording.{Recording}
-use Rattle.models.specs.Graph.{graph, base, Within}
+use Rattle.models.specs.Graph.{base, Within}
 use Rattle.models.specs.Term.{eval}
 use Rattle.models.specs.Rules.{Model, verdict}
-use Rattle.models.specs.Clause.{Clause, First, tested, numberFrom, unions}
+use Rattle.models.specs.Clause.{Clause, tested, numberFrom, unions}
 use Rattle.models.specs.Why.{Clauses, clausesOf}
 use Rattle.models.proofs.ClauseLaws.{first-clause}
 use Rattle.verdict.specs.declared.Verdict.{Verdict}

@@ -6,24 +6,17 @@ use Prim.Native.Nat.{ℕ, suc, _+_}
 use native.Mathlib.Omega.{arith}
 use lib.Dec.{T}
 use Rattle.relation.specs.Rel.{Rel, none, empty, union, either}
+use Rattle.relation.proofs.SetLaws.{or-false, or-assoc}
 use Rattle.models.specs.Recording.{Recording}
-use Rattle.models.specs.Graph.{Graph, Base, graph, base, Within}
-use Rattle.models.specs.Term.{Term, po, rf, co, _∪_, _⨾_, opt, fr, eval}
+use Rattle.models.specs.Graph.{Base, graph, base, Within}
+use Rattle.models.specs.Term.{Term, po, rf, co, _∪_, _⨾_, fr, eval}
 use Rattle.models.specs.Clause.{Clause, term, First, here, later, tested, numberFrom, unions}
 use Rattle.models.specs.Imm.{sw, eco, ar, stepClauses, ecoClauses, arClauses}
 use Rattle.models.specs.Armv8.{ob, scPerLoc, obClauses, scPerLocClauses}
 use Rattle.models.specs.Tso.{tso, tsoClauses}
-use Rattle.models.proofs.Agree.{Agrees, tests, optional-last, agrees}
+use Rattle.models.proofs.Agree.{tests, optional-last, agrees}
 
 -- Unions of relations.
-or-false : (a : Bool) → (a || false) ≡ a
-or-false true = refl
-or-false false = refl
-
-or-assoc : (a b c : Bool) → (a || (b || c)) ≡ ((a || b) || c)
-or-assoc true b c = refl
-or-assoc false b c = refl
-
 unions-one : (r : Rel) → unions (r ∷ []) ≡ r
 unfolding unions either union none empty
 unions-one r = fun-ext (λ i. fun-ext (λ j. or-false (r i j)))
@@ -31,7 +24,7 @@ unions-one r = fun-ext (λ i. fun-ext (λ j. or-false (r i j)))
 pub unions-both : (rs ss : List Rel) → unions (rs ++ ss) ≡ either (unions rs) (unions ss)
 unfolding unions either union none empty
 unions-both [] ss = refl
-unions-both (r ∷ rs) ss = ap (either r) (unions-both rs ss) ∙ fun-ext (λ i. fun-ext (λ j. or-assoc (r i j) (unions rs i j) (unions ss i j)))
+unions-both (r ∷ rs) ss = ap (either r) (unions-both rs ss) ∙ fun-ext (λ i. fun-ext (λ j. sym (or-assoc (r i j) (unions rs i j) (unions ss i j))))
 
 -- The term t is the union of the terms ts.
 record Opened (t : Term) (ts : List Term) : Type 0 where

@@ -4,7 +4,6 @@ use Rattle.recording.proofs.Loaded.{loaded-within}
 use Rattle.verdict.specs.Answer.{ruleOf}
 use Rattle.execution.proofs.BaseOf.{steps-by-base}
 use Rattle.armv8.proofs.Armv8Explains.{armv8-explains}
-use borrow.Author.Needs.{needs}
 use Rattle.armv8.proofs.file.explained.Statement.{statement}
 use Rattle.armv8.proofs.file.explained.Tie as tie
 

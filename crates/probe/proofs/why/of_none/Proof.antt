@@ -1,9 +1,7 @@
 -- `why::of_none` meets its contract: what loading answers, else 11.
-use mathlib.Core.Path.{_≡_, refl, sym, ap, _∙_}
-use mathlib.Core.List.{[]}
+use mathlib.Core.Path.{ap, _∙_}
 use Rattle.recording.specs.Load.{numberOf}
 use Rattle.recording.proofs.CauseLaws.{load-number}
-use Rattle.probe.specs.Calls.{codedAnswer}
 use Rattle.probe.proofs.WhyLaws.{none-refused, none-loads}
 use borrow.Author.Needs.{needs}
 use Rattle.probe.proofs.why.of_none.Statement.{statement}
