@@ -1,4 +1,5 @@
-//! The seven calls, each in the library and in the plain implementation, and the parts of their answers.
+//! Seven of the calls, each in the library and in the plain implementation, and the parts of their answers. The plain implementation has no
+//! `probe_why`.
 
 use crate::{library, plain};
 

@@ -1,5 +1,5 @@
 """The cases of tests/tools: texts with their bytes, wrong texts and refused recordings with what is said of them, renumbered recordings,
-and misuses."""
+the clauses by which the steps of a ring are named, and misuses."""
 
 WORKED = "01 02 01 01 01 00 00 00 02 02 00 00 00 01 00 00 00 01 00 00 00 01 00 01 00 01 01 00"
 HAND_WRITTEN = [  # a text, its file's bytes

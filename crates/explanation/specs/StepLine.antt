@@ -38,14 +38,14 @@ stepLine word cs step = parted (word ∷ decimal (getD step 0 0) ∷ decimal (ge
 abbrev pub stepLines : List ℕ → List Clause → List (List ℕ) → List ℕ
 stepLines word cs steps = joined (map (stepLine word cs) steps)
 
--- The clauses of the model that a line is of.
+-- The rest says what the parts do. The clauses of the model that a line is of:
 abbrev pub clausesFor : Model → Clauses
 clausesFor Source = immClauses
 clausesFor Chip = armv8Clauses
 clausesFor Tso = tsoRingClauses
 
--- The rest says how a name is found among words that single spaces part: byte by byte, with the number of words from here to the one that is
--- wanted, which is 1 within it.
+-- A name is found among words that single spaces part, byte by byte, with the number of words from here to the one that is wanted, which is 1
+-- within it.
 abbrev pub leftAt : Bool → ℕ → ℕ
 leftAt true zero = zero
 leftAt true (suc m) = m

@@ -10,7 +10,7 @@ use Rattle.clause.specs.Steps.{ring, Explained}
 use Rattle.translation.specs.Translation.{translation}
 use Rattle.lines.specs.Lines as lines
 use Rattle.explanation.specs.StepLine.{stepLines}
-use Rattle.judgement.specs.Judgement.{OnSource, OnChip, OnTso, lineFor, TextOf}
+use Rattle.judgement.specs.Judgement.{OnSource, OnChip, OnTso, lineFor, SourceLines, TextOf}
 
 -- The text is the line of a verdict on the file f, as the judge prints it, and under it the lines of the steps of its ring: none where it shows
 -- no ring. Each step has the first clause of C that relates its two events.
@@ -30,6 +30,8 @@ pub record SourceWhy (f text : List ℕ) : Type 0 where
   pub chip : Reasoned OnChip armv8Clauses lines.chip (translation f) on-chip
   pub tso : Reasoned OnTso tsoRingClauses lines.tso f on-tso
   pub prints : text ≡ (on-source ++ on-chip) ++ on-tso
+  -- Without the steps it is what the judge may print.
+  pub judges : SourceLines f ((lineFor lines.source (source .verdict) ++ lineFor lines.chip (chip .verdict)) ++ lineFor lines.tso (tso .verdict))
 
 -- The text is what the program why prints of the file f. Which of several shortest rings is shown is free; all else is fixed.
 abbrev pub PrintsWhy : List ℕ → List ℕ → Type 0

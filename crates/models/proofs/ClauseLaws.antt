@@ -7,6 +7,7 @@ use native.Mathlib.Omega.{arith}
 use lib.Dec.{T}
 use Rattle.relation.specs.Rel.{Rel, none, empty, union, either}
 use Rattle.relation.proofs.SetLaws.{or-false, or-assoc}
+use Rattle.relation.proofs.Truth.{holds}
 use Rattle.models.specs.Recording.{Recording}
 use Rattle.models.specs.Graph.{Base, graph, base, Within}
 use Rattle.models.specs.Term.{Term, po, rf, co, _∪_, _⨾_, fr, eval}
@@ -81,9 +82,6 @@ module _ (n : ℕ) (r : Rel) (rs : List Rel) (a b : ℕ) where
   number-later e = rw (e, numberFrom) refl
 
 -- The first clause by the tests is the first in the graph, where any relates the two events.
-pass : (b : Bool) → b ≡ true → T b
-pass b e = subst T (sym e) tt
-
 module _ (es : List ℕ) (r : Recording ℕ) (within : Within es r) (a b : ℕ) where
   abbrev Found : List Clause → ℕ → Type 0
   Found cs n = (m : ℕ) × First (graph r) a b cs (suc m) × (numberFrom n (tested es (base es r) cs) a b ≡ n + m)
@@ -95,7 +93,7 @@ module _ (es : List ℕ) (r : Recording ℕ) (within : Within es r) (a b : ℕ) 
     where
       by : (unions (tested es (base es r) cs) a b ≡ true → Found cs (suc n)) → (t : Bool) → eval es (term c) (base es r) a b ≡ t
           → (t || unions (tested es (base es r) cs) a b) ≡ true → Found (c ∷ cs) n
-      by rest true e k = (0, here (tests es _ _ (agrees es r within) (term c) .to a b (pass _ e)), number-here n _ _ a b e ∙ omega arith)
+      by rest true e k = (0, here (tests es _ _ (agrees es r within) (term c) .to a b (holds _ e)), number-here n _ _ a b e ∙ omega arith)
       by rest false e k =
           let (m, first, number) = rest k in
           (suc m, later (λ h. elim (subst T e (tests es _ _ (agrees es r within) (term c) .from a b h)) [ ]) first, number-later n _ _ a b e ∙ number ∙ omega arith)

@@ -1,5 +1,6 @@
--- Clauses: the parts of a relation by name, by which a step of a ring is explained. 003 gives each relation as a union; where a part has no name
--- of its own, its name is its formula in ASCII, in which ; is "then", | is union and ? is "optionally".
+-- Clauses: the parts of a relation by name, by which a step of a ring is explained. 003, and 02 for x86-TSO, give each relation as a union; where
+-- a part has no name of its own, its name is its formula in ASCII: ; is "then", | is union, ? is "optionally", [S] is the identity on the set S,
+-- and xe, xi are x external and internal.
 use mathlib.Core.Bool.{true, false}
 use mathlib.Core.List.{List, [], _∷_, map}
 use Prim.Native.Nat.{ℕ, suc}
@@ -23,7 +24,7 @@ pub data First {E : Type 0} (G : Graph E) (a b : E) : List Clause → ℕ → Ty
   here : {c : Clause} {cs : List Clause} → ⟦ term c ⟧ G a b → First G a b (c ∷ cs) 1
   later : {c : Clause} {cs : List Clause} {n : ℕ} → ¬ ⟦ term c ⟧ G a b → First G a b cs n → First G a b (c ∷ cs) (suc n)
 
--- The tests of the clauses, over the list es.
+-- The rest says how the first clause is found by tests, over the list es. The tests of the clauses:
 abbrev pub tested : List ℕ → Base → List Clause → List Rel
 tested es B cs = map (λ c. eval es (term c) B) cs
 

@@ -256,7 +256,8 @@ const ONLY_RING: &[Row] = &[
         &[1, 3, 4, 7],
         "po;[Fsy];po rfe (ctrl|addr;po);[Fisb];po;[R] fre",
     ),
-    // aob. To the read of a pair, and not to its write, leads nothing but [Wrel];po;[Racq], so that [Racq];po is beside rmw.
+    // aob. A shortest ring comes to the read of a pair by [Wrel];po;[Racq] alone, so that [Racq];po is beside rmw: what else leads there
+    // leads to its write too, or, by [codom(rmw)];rfi;[Racq], comes from a write whose own predecessor leads there.
     (
         "chip",
         5,

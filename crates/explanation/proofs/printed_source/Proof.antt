@@ -23,7 +23,7 @@ returns c =
     let first = after-chip .before in
     let after-source = first .before in
     let none = after-source .before in
-    let (on, (on-chip, (on-tso, sound))) = none .before .before .before .before .of-source .ensures in
+    let (on, (on-chip, (on-tso, (sound, tso-sound)))) = none .before .before .before .before .of-source .ensures in
     let one = behind-none (none .empty .result) (none .empty .ensures) (first .reasoned .ensures .0) in
     let two = second .reasoned2 .ensures .0 in (
       record {
@@ -33,6 +33,17 @@ returns c =
         source = record { verdict = _; judged = on; steps = _; explained = after-source .explained .ensures; prints = refl };
         chip = record { verdict = _; judged = on-chip; steps = _; explained = after-chip .chip-steps .ensures; prints = refl };
         tso = record { verdict = _; judged = on-tso; steps = _; explained = after-tso .explained2 .ensures; prints = refl };
+        judges = record {
+          on-source = _;
+          on-chip = _;
+          on-tso = _;
+          judged = on;
+          judged-chip = on-chip;
+          judged-tso = on-tso;
+          sound = sound;
+          tso-sound = tso-sound;
+          prints = refl;
+        };
         prints = c .reasoned3 .ensures .0 ∙ ap₂ _++_ (two ∙ ap₂ _++_ one refl) refl;
       },
       omega (arith, none .empty .ensures, first .reasoned .ensures .1, second .reasoned2 .ensures .1, c .reasoned3 .ensures .1),
