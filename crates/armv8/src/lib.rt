@@ -2,7 +2,7 @@
 
 pub mod file;
 mod ob;
-pub mod why;
+mod why;
 
 use relation::grid;
 use verdict::Verdict;

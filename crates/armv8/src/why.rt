@@ -10,14 +10,14 @@ use verdict::base::Relations;
 use verdict::base::Sets;
 use verdict::rules;
 ghost use Prim.Native.Nat.{_≤_};
-ghost use Rattle.models.specs.Why.{clausesOf, armv8Clauses};
+ghost use Rattle.models.specs.Why.{clausesOf, armv8Rings};
 ghost use Rattle.verdict.specs.Base.{baseOf};
 ghost use Rattle.verdict.specs.Answer.{ruleOf};
 ghost use Rattle.clause.specs.Steps.{Held, StepsBy};
 
 // The clauses of a rule by its number.
 fn clauses(sets: Sets, relations: Relations, rule: u8) -> Clauses
-    ensures { λ r. ⌜ Held 14 (clausesOf armv8Clauses rule) (baseOf sets relations) r ⌝ }
+    ensures { λ r. ⌜ Held 14 (clausesOf armv8Rings rule) (baseOf sets relations) r ⌝ }
 {
     let po = relations[base::PO];
     let rf = relations[base::RF];
@@ -35,7 +35,7 @@ fn clauses(sets: Sets, relations: Relations, rule: u8) -> Clauses
 // The steps of the ring that a verdict shows, each with the number of its clause.
 pub fn why(sets: Sets, relations: Relations, v: Verdict) -> Steps
     requires { ⌜ v .len ≤ 64 ⌝ }
-    ensures { λ r. ⌜ StepsBy (clausesOf armv8Clauses (ruleOf (v .answer))) (baseOf sets relations) v r ⌝ }
+    ensures { λ r. ⌜ StepsBy (clausesOf armv8Rings (ruleOf (v .answer))) (baseOf sets relations) v r ⌝ }
 {
     let answer = v.answer;
     let c = clauses(sets, relations, clause::rule(answer));

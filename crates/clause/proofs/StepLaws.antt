@@ -1,11 +1,12 @@
 -- Laws of clauses as grids and of the steps of a ring, for the loops over them.
-use mathlib.Core.Bool.{Bool, true, false}
+use mathlib.Core.Bool.{Bool, true, false, _||_}
 use mathlib.Core.Path.{_≡_, refl, sym, ap, subst, _∙_, fun-ext}
 use mathlib.Core.List.{List, [], _∷_, _++_, map}
 use Prim.Native.Nat.{ℕ, zero, suc, _+_, _-_, _<_, _≤_}
 use native.Mathlib.Numerals.{add-one}
 use native.Mathlib.Omega.{arith}
 use borrow.Author.Tests.{ne-eqb}
+use lib.Dec.{eqb}
 use lib.ListN.{length, getD, take, drop, set, length-set, List·getD-eq-default, List·getD-map, drop-of-length-le}
 use lib.Seq.{take-suc-set, drop-cons, getD-take, length-take-le}
 use Rattle.relation.specs.Rel.{Rel, none, empty, union, either, nodes}
@@ -134,7 +135,7 @@ module _ (size : ℕ) (cs : List Clause) (B : Base) (grids : List (List (List �
   pub held-at : (k : ℕ) → edge (getD grids k []) ≡ getD (tested nodes B cs ++ nones (size - length cs)) k (edge [])
   held-at k = sym (List·getD-map edge grids k []) ∙ ap (λ (l : List Rel). getD l k (edge [])) (w .clauses)
 
-  pub held-number : numberFrom 1 (map edge grids) ≡ numberFrom 1 (tested nodes B cs)
+  held-number : numberFrom 1 (map edge grids) ≡ numberFrom 1 (tested nodes B cs)
   held-number = ap (numberFrom 1) (w .clauses) ∙ fun-ext (λ a. fun-ext (λ b. number-nones (tested nodes B cs) 1 (size - length cs) a b))
 
   pub held-union : (t : Term) → eval nodes t B ≡ unions (tested nodes B cs) → (r : Rel) → r ≡ unions (map edge grids) → r ≡ eval nodes t B
@@ -168,26 +169,14 @@ module _ (v : Verdict) where
     shows : events v ≡ ring v → Shows (v .len)
     shows e = (e, (sym (length-take-le (v .len) (v .at) (omega arith)) ∙ ap length e, few))
 
-    pub ring-3 : ruleOf (v .answer) ≡ 3 → Shows (v .len)
+    pub ring-all : (k : ℕ) → (eqb k 3 || eqb k 5) ≡ true → ruleOf (v .answer) ≡ k → Shows (v .len)
     unfolding ring
-    ring-3 e = shows (rw (e, ring) refl)
-
-    pub ring-5 : ruleOf (v .answer) ≡ 5 → Shows (v .len)
-    unfolding ring
-    ring-5 e = shows (rw (e, ring) refl)
+    ring-all k h e = shows (rw (e, h, ring) refl)
 
 -- The clauses of a model by the number of the rule.
 module _ (C : Clauses) (B : Base) (grids : List (List (List ℕ))) (n : ℕ) where
   pub held-rule : (m : ℕ) → m ≡ n → Held 14 (clausesOf C m) B grids → Held 14 (clausesOf C n) B grids
   held-rule m e w = subst (λ (k : ℕ). Held 14 (clausesOf C k) B grids) e w
-
-  pub held-3 : n ≡ 3 → Held 14 (C .rule3) B grids → Held 14 (clausesOf C n) B grids
-  unfolding clausesOf
-  held-3 e w = held-rule 3 (sym e) w
-
-  pub held-5 : n ≡ 5 → Held 14 (C .rule5) B grids → Held 14 (clausesOf C n) B grids
-  unfolding clausesOf
-  held-5 e w = held-rule 5 (sym e) w
 
   pub held-none : (n ≡ 3 → ⊥) → (n ≡ 5 → ⊥) → Held 14 [] B grids → Held 14 (clausesOf C n) B grids
   unfolding clausesOf

@@ -89,7 +89,7 @@ module _ (t : Text) (w : List ℕ) (n : ℕ) where
     nth-all h = put-as (sym (append-nil (p .found)) ∙ ap (λ (l : List ℕ). p .found ++ wordAt m l) (sym (drop-of-length-le w h)) ∙ p .rest) (p .put)
 
 -- A word without a space, and what stands behind it.
-abbrev pub unspaced : List ℕ → Bool
+abbrev unspaced : List ℕ → Bool
 unspaced [] = true
 unspaced (b ∷ w) = not (eqb b 32) && unspaced w
 
@@ -123,13 +123,13 @@ at-none (b ∷ w) = go (eqb b 32) (at-none w)
     go false e = e
 
 -- The names of clauses, of which none has a space and none is longer than 28 bytes.
-abbrev pub names : List Clause → List (List ℕ)
+abbrev names : List Clause → List (List ℕ)
 names cs = map (λ c. ascii (name c)) cs
 
 abbrev fit : Clause → Bool
 fit c = unspaced (ascii (name c)) && ltb (length (ascii (name c))) 29
 
-abbrev pub proper : List Clause → Bool
+abbrev proper : List Clause → Bool
 proper [] = true
 proper (c ∷ cs) = fit c && proper cs
 
@@ -171,7 +171,7 @@ names-nth [] words h e = record { each = λ n. ap (wordAt n) e }
 names-nth (c ∷ cs) words h e =
     record { each = λ n. ap (wordAt n) e ∙ word-nth c cs (own-unspaced c cs h) (spaced-nth cs (rest-proper c cs h)) n }
 
-pub name-short : (cs : List Clause) → proper cs ≡ true → (n : ℕ) → length (nameOf cs n) ≤ 28
+name-short : (cs : List Clause) → proper cs ≡ true → (n : ℕ) → length (nameOf cs n) ≤ 28
 unfolding nameOf
 name-short [] h n = omega arith
 name-short (c ∷ cs) h zero = omega arith
@@ -180,13 +180,8 @@ name-short (c ∷ cs) h (suc (suc n)) = name-short cs (rest-proper c cs h) (suc 
 
 -- The name of a clause of a rule, put by the names of the clauses of rules 3 and 5.
 module _ (C : Clauses) (t r : Text) (rule n : ℕ) where
-  pub put-named-3 : (words : List ℕ) → Names (C .rule3) words → rule ≡ 3 → Put t (wordAt n words) r → Put t (nameOf (clausesOf C rule) n) r
-  unfolding clausesOf
-  put-named-3 words w e p = put-as (w .each n ∙ ap (λ (k : ℕ). nameOf (clausesOf C k) n) (sym e)) p
-
-  pub put-named-5 : (words : List ℕ) → Names (C .rule5) words → rule ≡ 5 → Put t (wordAt n words) r → Put t (nameOf (clausesOf C rule) n) r
-  unfolding clausesOf
-  put-named-5 words w e p = put-as (w .each n ∙ ap (λ (k : ℕ). nameOf (clausesOf C k) n) (sym e)) p
+  pub put-named : (k : ℕ) (words : List ℕ) → Names (clausesOf C k) words → rule ≡ k → Put t (wordAt n words) r → Put t (nameOf (clausesOf C rule) n) r
+  put-named k words w e p = put-as (w .each n ∙ ap (λ (j : ℕ). nameOf (clausesOf C j) n) (sym e)) p
 
   pub put-named-none : (rule ≡ 3 → ⊥) → (rule ≡ 5 → ⊥) → Put t [] r → Put t (nameOf (clausesOf C rule) n) r
   unfolding clausesOf nameOf

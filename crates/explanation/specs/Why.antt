@@ -2,7 +2,7 @@
 use mathlib.Core.Path.{_≡_}
 use mathlib.Core.List.{List, _++_}
 use Prim.Native.Nat.{ℕ}
-use Rattle.models.specs.Why.{Clauses, clausesOf, immClauses, armv8Clauses, tsoRingClauses}
+use Rattle.models.specs.Why.{Clauses, clausesOf, immRings, armv8Rings, tsoRings}
 use Rattle.layout.specs.Decode.{decode}
 use Rattle.verdict.specs.declared.Verdict.{Verdict}
 use Rattle.verdict.specs.Answer.{ruleOf}
@@ -26,13 +26,13 @@ pub record SourceWhy (f text : List ℕ) : Type 0 where
   pub on-source : List ℕ
   pub on-chip : List ℕ
   pub on-tso : List ℕ
-  pub source : Reasoned OnSource immClauses lines.source f on-source
-  pub chip : Reasoned OnChip armv8Clauses lines.chip (translation f) on-chip
-  pub tso : Reasoned OnTso tsoRingClauses lines.tso f on-tso
+  pub source : Reasoned OnSource immRings lines.source f on-source
+  pub chip : Reasoned OnChip armv8Rings lines.chip (translation f) on-chip
+  pub tso : Reasoned OnTso tsoRings lines.tso f on-tso
   pub prints : text ≡ (on-source ++ on-chip) ++ on-tso
   -- Without the steps it is what the judge may print.
   pub judges : SourceLines f ((lineFor lines.source (source .verdict) ++ lineFor lines.chip (chip .verdict)) ++ lineFor lines.tso (tso .verdict))
 
 -- The text is what the program why prints of the file f. Which of several shortest rings is shown is free; all else is fixed.
 abbrev pub PrintsWhy : List ℕ → List ℕ → Type 0
-PrintsWhy = TextOf SourceWhy (Reasoned OnChip armv8Clauses lines.chip)
+PrintsWhy = TextOf SourceWhy (Reasoned OnChip armv8Rings lines.chip)

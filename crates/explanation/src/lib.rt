@@ -16,7 +16,7 @@ ghost use mathlib.Core.Path.{_≡_};
 ghost use mathlib.Core.List.{List, _++_};
 ghost use Prim.Native.Nat.{ℕ, _+_, _*_, _≤_};
 ghost use lib.ListN.{length, take};
-ghost use Rattle.models.specs.Why.{clausesOf, armv8Clauses};
+ghost use Rattle.models.specs.Why.{clausesOf, armv8Rings};
 ghost use Rattle.layout.specs.Layout.{source};
 ghost use Rattle.layout.specs.Decode.{decode};
 ghost use Rattle.recording.specs.Load.{LoadsAs};
@@ -102,7 +102,7 @@ fn reasoned(text: Explanation, model: Model, v: Verdict, steps: Steps) -> Explan
 // The steps of the ring that the verdict on the translation of a source file shows, each with the number of its clause.
 fn chip_steps(file: &[u8], v: Verdict) -> Steps
     requires { ⌜ LoadsAs source (now file) × OnChip (translation (now file)) v ⌝ }
-    ensures { λ r. ⌜ Explained (clausesOf armv8Clauses (ruleOf (v .answer))) (decode (translation (now (file .entry)))) (ring v)
+    ensures { λ r. ⌜ Explained (clausesOf armv8Rings (ruleOf (v .answer))) (decode (translation (now (file .entry)))) (ring v)
         (take (length (ring v)) r) ⌝ }
 {
     let mut bytes = [0u8; 1320];

@@ -13,7 +13,7 @@ use Rattle.models.specs.Term.{eval}
 use Rattle.models.specs.Imm.{eco, stepClauses, ecoClauses}
 use Rattle.models.specs.Rules.{IMM}
 use Rattle.models.specs.Clause.{tested, unions}
-use Rattle.models.specs.Why.{clausesOf, immClauses}
+use Rattle.models.specs.Why.{clausesOf, immRings}
 use Rattle.models.proofs.ClauseLaws.{unions-both, step-opened, eco-opened, ar-opened}
 use Rattle.verdict.specs.declared.Verdict.{Verdict}
 use Rattle.verdict.specs.Answer.{ruleOf}
@@ -26,22 +26,22 @@ module _ (r : Recording ℕ) (within : Within nodes r) where
   abbrev B : Base
   B = base nodes r
 
-  both : (a b : ℕ) → either (unions (tested nodes B stepClauses)) (unions (tested nodes B ecoClauses)) a b ≡ true → unions (tested nodes B (immClauses .rule3)) a b ≡ true
+  both : (a b : ℕ) → either (unions (tested nodes B stepClauses)) (unions (tested nodes B ecoClauses)) a b ≡ true → unions (tested nodes B (immRings .rule3)) a b ≡ true
   both a b h = ap (λ (s : Rel). s a b) (unions-both (tested nodes B stepClauses) (tested nodes B ecoClauses)) ∙ h
 
-  covers-steps : Covers r within (immClauses .rule3) (steps B)
+  covers-steps : Covers r within (immRings .rule3) (steps B)
   unfolding steps either union
   covers-steps a b h = both a b (or-left _ _ (sym (ap (λ (s : Rel). s a b) (step-opened nodes B)) ∙ h))
 
-  covers-eco : Covers r within (immClauses .rule3) (eval nodes eco B)
+  covers-eco : Covers r within (immRings .rule3) (eval nodes eco B)
   unfolding either union
   covers-eco a b h = both a b (or-right (unions (tested nodes B stepClauses) a b) _ (sym (ap (λ (s : Rel). s a b) (eco-opened nodes r within)) ∙ h))
 
-  covers-closing : Covers r within (immClauses .rule3) (closing B)
+  covers-closing : Covers r within (immRings .rule3) (closing B)
   covers-closing a b h = elim (closing-cases B a b h) [ inl p ↦ covers-steps a b p | inr p ↦ covers-eco a b p ]
 
-  pub imm-explains : (v : Verdict) → Judged B v → (found : List (List ℕ)) → StepsBy (clausesOf immClauses (ruleOf (v .answer))) B v found
-      → Explained (clausesOf immClauses (ruleOf (v .answer))) r (ring v) (take (length (ring v)) found)
+  pub imm-explains : (v : Verdict) → Judged B v → (found : List (List ℕ)) → StepsBy (clausesOf immRings (ruleOf (v .answer))) B v found
+      → Explained (clausesOf immRings (ruleOf (v .answer))) r (ring v) (take (length (ring v)) found)
   imm-explains v w =
-      verdict-explained r within immClauses IMM (steps B) (closing B) covers-steps covers-closing
+      verdict-explained r within immRings IMM (steps B) (closing B) covers-steps covers-closing
       (λ a b h. sym (ap (λ (s : Rel). s a b) (ar-opened nodes B)) ∙ h) v w

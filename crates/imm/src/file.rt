@@ -8,7 +8,7 @@ use recording::causes;
 use verdict::Verdict;
 ghost use lib.ListN.{length, take};
 ghost use Rattle.models.specs.Rules.{IMM};
-ghost use Rattle.models.specs.Why.{clausesOf, immClauses};
+ghost use Rattle.models.specs.Why.{clausesOf, immRings};
 ghost use Rattle.layout.specs.Layout.{source};
 ghost use Rattle.layout.specs.Decode.{decode};
 ghost use Rattle.recording.specs.Load.{LoadsAs};
@@ -40,7 +40,7 @@ pub fn loaded(file: &[u8]) -> Verdict
 // The steps of the ring that the verdict on a source recording shows, each with the number of its clause.
 pub fn explained(file: &[u8], v: Verdict) -> Steps
     requires { ⌜ LoadsAs source (now file) × OnRecording IMM Judged (decode (now file)) v ⌝ }
-    ensures { λ r. ⌜ Explained (clausesOf immClauses (ruleOf (v .answer))) (decode (now (file .entry))) (ring v) (take (length (ring v)) r) ⌝ }
+    ensures { λ r. ⌜ Explained (clausesOf immRings (ruleOf (v .answer))) (decode (now (file .entry))) (ring v) (take (length (ring v)) r) ⌝ }
 {
     why(execution::sets(file), execution::relations(file), v)
 }

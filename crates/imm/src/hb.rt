@@ -56,7 +56,7 @@ fn sw(
     grid::then(release, grid::then(read, end))
 }
 
-// sw of a base
+// sw, from the arrays of a base: release sequence, release and sw, one after the other.
 pub fn synchronizes(sets: Sets, relations: Relations, poloc: Grid, rfe: Grid, rfi: Grid) -> Grid
     ensures { λ r. ⌜ (let B : Base = baseOf sets relations in
         edge poloc ≡ eval nodes po-loc B → edge rfe ≡ eval nodes rfₑ B → edge rfi ≡ eval nodes rfᵢ B

@@ -3,7 +3,7 @@
 mod ar;
 pub mod file;
 mod hb;
-pub mod why;
+mod why;
 
 use relation::grid;
 use relation::row;

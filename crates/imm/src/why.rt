@@ -11,14 +11,14 @@ use verdict::base::Relations;
 use verdict::base::Sets;
 use verdict::rules;
 ghost use Prim.Native.Nat.{_≤_};
-ghost use Rattle.models.specs.Why.{clausesOf, immClauses};
+ghost use Rattle.models.specs.Why.{clausesOf, immRings};
 ghost use Rattle.verdict.specs.Base.{baseOf};
 ghost use Rattle.verdict.specs.Answer.{ruleOf};
 ghost use Rattle.clause.specs.Steps.{Held, StepsBy};
 
 // Rule 3: po and sw, and for the closing step those of eco.
 fn coherence(sets: Sets, relations: Relations) -> Clauses
-    ensures { λ r. ⌜ Held 14 (immClauses .rule3) (baseOf sets relations) r ⌝ }
+    ensures { λ r. ⌜ Held 14 (immRings .rule3) (baseOf sets relations) r ⌝ }
 {
     let po = relations[base::PO];
     let rf = relations[base::RF];
@@ -55,7 +55,7 @@ fn coherence(sets: Sets, relations: Relations) -> Clauses
 
 // Rule 5: those of ar.
 fn order(sets: Sets, relations: Relations) -> Clauses
-    ensures { λ r. ⌜ Held 14 (immClauses .rule5) (baseOf sets relations) r ⌝ }
+    ensures { λ r. ⌜ Held 14 (immRings .rule5) (baseOf sets relations) r ⌝ }
 {
     let po = relations[base::PO];
     let rf = relations[base::RF];
@@ -80,7 +80,7 @@ fn order(sets: Sets, relations: Relations) -> Clauses
 
 // The clauses of a rule by its number.
 fn clauses(sets: Sets, relations: Relations, rule: u8) -> Clauses
-    ensures { λ r. ⌜ Held 14 (clausesOf immClauses rule) (baseOf sets relations) r ⌝ }
+    ensures { λ r. ⌜ Held 14 (clausesOf immRings rule) (baseOf sets relations) r ⌝ }
 {
     if rule == 3 {
         return coherence(sets, relations);
@@ -94,7 +94,7 @@ fn clauses(sets: Sets, relations: Relations, rule: u8) -> Clauses
 // The steps of the ring that a verdict shows, each with the number of its clause.
 pub fn why(sets: Sets, relations: Relations, v: Verdict) -> Steps
     requires { ⌜ v .len ≤ 64 ⌝ }
-    ensures { λ r. ⌜ StepsBy (clausesOf immClauses (ruleOf (v .answer))) (baseOf sets relations) v r ⌝ }
+    ensures { λ r. ⌜ StepsBy (clausesOf immRings (ruleOf (v .answer))) (baseOf sets relations) v r ⌝ }
 {
     let answer = v.answer;
     let c = clauses(sets, relations, clause::rule(answer));

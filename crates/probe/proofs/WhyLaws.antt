@@ -8,7 +8,7 @@ use lib.ListN.{length, getD, take, set, length-set}
 use lib.Seq.{take-suc, take-suc-set}
 use Rattle.models.specs.Graph.{Base}
 use Rattle.models.specs.Rules.{Model, IMM, ARMv8, TSO}
-use Rattle.models.specs.Why.{Clauses, clausesOf, immClauses, armv8Clauses, tsoRingClauses}
+use Rattle.models.specs.Why.{Clauses, clausesOf, immRings, armv8Rings, tsoRings}
 use Rattle.layout.specs.Layout.{Side, source, chip}
 use Rattle.layout.specs.Decode.{decode}
 use Rattle.recording.specs.Causes.{refusal}
@@ -139,7 +139,7 @@ module _ (model : ℕ) (f out : List ℕ) (r : ℕ) (left : List ℕ) where
   another : (m n : ℕ) → model ≡ m → model ≡ n → (m ≡ n → ⊥) → ⊥
   another m n e h d = d (sym e ∙ h)
 
-  pub why-imm : model ≡ 1 → Explains source IMM immClauses imm.Judged f out r left → Why model f out r left
+  pub why-imm : model ≡ 1 → Explains source IMM immRings imm.Judged f out r left → Why model f out r left
   why-imm e w =
       record {
         imm = λ h. w;
@@ -148,7 +148,7 @@ module _ (model : ℕ) (f out : List ℕ) (r : ℕ) (left : List ℕ) where
         other = λ d. absurd (d e);
       }
 
-  pub why-armv8 : model ≡ 2 → Explains chip ARMv8 armv8Clauses armv8.Judged f out r left → Why model f out r left
+  pub why-armv8 : model ≡ 2 → Explains chip ARMv8 armv8Rings armv8.Judged f out r left → Why model f out r left
   why-armv8 e w =
       record {
         imm = λ h. absurd (another 2 1 e h (λ x. omega arith));
@@ -157,7 +157,7 @@ module _ (model : ℕ) (f out : List ℕ) (r : ℕ) (left : List ℕ) where
         other = λ c d. absurd (d e);
       }
 
-  pub why-tso : model ≡ 3 → Explains source TSO tsoRingClauses tso.Judged f out r left → Why model f out r left
+  pub why-tso : model ≡ 3 → Explains source TSO tsoRings tso.Judged f out r left → Why model f out r left
   why-tso e w =
       record {
         imm = λ h. absurd (another 3 1 e h (λ x. omega arith));

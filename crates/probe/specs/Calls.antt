@@ -5,7 +5,7 @@ use Prim.Native.Nat.{ℕ, zero, suc, _+_, _*_}
 use lib.ListN.{length, getD}
 use Rattle.models.specs.Graph.{Base}
 use Rattle.models.specs.Rules.{Model, IMM, ARMv8, TSO}
-use Rattle.models.specs.Why.{Clauses, clausesOf, immClauses, armv8Clauses, tsoRingClauses}
+use Rattle.models.specs.Why.{Clauses, clausesOf, immRings, armv8Rings, tsoRings}
 use Rattle.layout.specs.Layout.{Side, source, chip}
 use Rattle.layout.specs.Decode.{decode}
 use Rattle.recording.specs.Causes.{refusal}
@@ -75,7 +75,7 @@ causeForNone f = elim (refusal f) [ zero ↦ 11 | suc n ↦ suc n ]
 
 -- The models by number: 1 IMM, 2 ARMv8, 3 x86-TSO.
 pub record Why (model : ℕ) (f out : List ℕ) (r : ℕ) (left : List ℕ) : Type 0 where
-  pub imm : model ≡ 1 → Explains source IMM immClauses imm.Judged f out r left
-  pub armv8 : model ≡ 2 → Explains chip ARMv8 armv8Clauses armv8.Judged f out r left
-  pub tso : model ≡ 3 → Explains source TSO tsoRingClauses tso.Judged f out r left
+  pub imm : model ≡ 1 → Explains source IMM immRings imm.Judged f out r left
+  pub armv8 : model ≡ 2 → Explains chip ARMv8 armv8Rings armv8.Judged f out r left
+  pub tso : model ≡ 3 → Explains source TSO tsoRings tso.Judged f out r left
   pub other : (model ≡ 1 → ⊥) → (model ≡ 2 → ⊥) → (model ≡ 3 → ⊥) → Stored (causeForNone f) 0 [] out r left

@@ -12,7 +12,7 @@ ghost use Prim.Native.Nat.{_*_, _≤_};
 ghost use lib.ListN.{length, take};
 ghost use Rattle.layout.specs.Layout.{source, chip};
 ghost use Rattle.models.specs.Rules.{IMM, ARMv8, TSO};
-ghost use Rattle.models.specs.Why.{immClauses, armv8Clauses, tsoRingClauses};
+ghost use Rattle.models.specs.Why.{immRings, armv8Rings, tsoRings};
 ghost use Rattle.imm.specs.Judged as imm;
 ghost use Rattle.armv8.specs.Judged as armv8;
 ghost use Rattle.tso.specs.Judged as tso;
@@ -61,7 +61,7 @@ pub fn of_none(file: &[u8], out: &mut [u8]) -> u64
 
 // Of the IMM verdict on a source file.
 pub fn of_imm(file: &[u8], out: &mut [u8]) -> u64
-    ensures { λ r. ⌜ Explains source IMM immClauses imm.Judged (now (file .entry)) (now (out .entry)) r (now (out .exit)) ⌝ }
+    ensures { λ r. ⌜ Explains source IMM immRings imm.Judged (now (file .entry)) (now (out .entry)) r (now (out .exit)) ⌝ }
 {
     let k = causes::cause(file, kind::SOURCE);
     if k != 0 {
@@ -73,7 +73,7 @@ pub fn of_imm(file: &[u8], out: &mut [u8]) -> u64
 
 // Of the ARMv8 verdict on a chip file.
 pub fn of_armv8(file: &[u8], out: &mut [u8]) -> u64
-    ensures { λ r. ⌜ Explains chip ARMv8 armv8Clauses armv8.Judged (now (file .entry)) (now (out .entry)) r (now (out .exit)) ⌝ }
+    ensures { λ r. ⌜ Explains chip ARMv8 armv8Rings armv8.Judged (now (file .entry)) (now (out .entry)) r (now (out .exit)) ⌝ }
 {
     let k = causes::cause(file, kind::CHIP);
     if k != 0 {
@@ -85,7 +85,7 @@ pub fn of_armv8(file: &[u8], out: &mut [u8]) -> u64
 
 // Of the x86-TSO verdict on a source file.
 pub fn of_tso(file: &[u8], out: &mut [u8]) -> u64
-    ensures { λ r. ⌜ Explains source TSO tsoRingClauses tso.Judged (now (file .entry)) (now (out .entry)) r (now (out .exit)) ⌝ }
+    ensures { λ r. ⌜ Explains source TSO tsoRings tso.Judged (now (file .entry)) (now (out .entry)) r (now (out .exit)) ⌝ }
 {
     let k = causes::cause(file, kind::SOURCE);
     if k != 0 {

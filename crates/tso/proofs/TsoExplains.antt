@@ -6,7 +6,7 @@ use Rattle.relation.specs.Rel.{nodes}
 use Rattle.models.specs.Recording.{Recording}
 use Rattle.models.specs.Graph.{base, Within}
 use Rattle.models.specs.Tso.{tso, tsoClauses}
-use Rattle.models.specs.Why.{clausesOf, tsoRingClauses}
+use Rattle.models.specs.Why.{clausesOf, tsoRings}
 use Rattle.models.proofs.ClauseLaws.{tso-opened}
 use Rattle.verdict.specs.declared.Verdict.{Verdict}
 use Rattle.verdict.specs.Answer.{ruleOf}
@@ -15,6 +15,6 @@ use Rattle.execution.proofs.PerLocationExplains.{per-location-explains}
 use Rattle.tso.specs.Judged.{Judged}
 
 pub tso-explains : (r : Recording ℕ) → Within nodes r → (v : Verdict) → Judged (base nodes r) v → (found : List (List ℕ))
-    → StepsBy (clausesOf tsoRingClauses (ruleOf (v .answer))) (base nodes r) v found
-    → Explained (clausesOf tsoRingClauses (ruleOf (v .answer))) r (ring v) (take (length (ring v)) found)
+    → StepsBy (clausesOf tsoRings (ruleOf (v .answer))) (base nodes r) v found
+    → Explained (clausesOf tsoRings (ruleOf (v .answer))) r (ring v) (take (length (ring v)) found)
 tso-explains r within = per-location-explains r within tso tsoClauses (tso-opened nodes (base nodes r))

@@ -8,7 +8,7 @@ use recording::causes;
 use verdict::Verdict;
 ghost use lib.ListN.{length, take};
 ghost use Rattle.models.specs.Rules.{TSO};
-ghost use Rattle.models.specs.Why.{clausesOf, tsoRingClauses};
+ghost use Rattle.models.specs.Why.{clausesOf, tsoRings};
 ghost use Rattle.layout.specs.Layout.{source};
 ghost use Rattle.layout.specs.Decode.{decode};
 ghost use Rattle.recording.specs.Load.{LoadsAs};
@@ -40,7 +40,7 @@ pub fn loaded(file: &[u8]) -> Verdict
 // The steps of the ring that the verdict on a source recording shows, each with the number of its clause.
 pub fn explained(file: &[u8], v: Verdict) -> Steps
     requires { ⌜ LoadsAs source (now file) × OnRecording TSO Judged (decode (now file)) v ⌝ }
-    ensures { λ r. ⌜ Explained (clausesOf tsoRingClauses (ruleOf (v .answer))) (decode (now (file .entry))) (ring v) (take (length (ring v)) r) ⌝ }
+    ensures { λ r. ⌜ Explained (clausesOf tsoRings (ruleOf (v .answer))) (decode (now (file .entry))) (ring v) (take (length (ring v)) r) ⌝ }
 {
     why(execution::sets(file), execution::relations(file), v)
 }

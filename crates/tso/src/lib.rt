@@ -2,7 +2,7 @@
 
 pub mod file;
 mod order;
-pub mod why;
+mod why;
 
 use verdict::Verdict;
 use verdict::base;

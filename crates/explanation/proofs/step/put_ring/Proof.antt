@@ -1,16 +1,19 @@
 -- `step::put_ring` meets its contract, by the rule.
 use native.Mathlib.Omega.{arith}
+use Rattle.models.specs.Why.{clausesOf}
 use Rattle.lines.proofs.PutLaws.{put-none}
-use Rattle.explanation.proofs.NameLaws.{put-named-3, put-named-5, put-named-none}
+use Rattle.explanation.proofs.NameLaws.{put-named, put-named-none}
 use borrow.Author.Needs.{needs}
 use Rattle.explanation.proofs.step.put_ring.Statement.{statement}
 use Rattle.explanation.proofs.step.put_ring.Tie as tie
 
 returns : tie.Need-returns
-returns c = λ C three five. put-named-3 C _ _ _ _ _ three (c .before .if1 .taken) (c .put-nth .ensures)
+unfolding clausesOf
+returns c = λ C three five. put-named C _ _ _ _ 3 _ three (c .before .if1 .taken) (c .put-nth .ensures)
 
 returns-2 : tie.Need-returns-2
-returns-2 c = λ C three five. put-named-5 C _ _ _ _ _ five (c .before .if2 .taken) (c .put-nth2 .ensures)
+unfolding clausesOf
+returns-2 c = λ C three five. put-named C _ _ _ _ 5 _ five (c .before .if2 .taken) (c .put-nth2 .ensures)
 
 returns-3 : tie.Need-returns-3
 returns-3 c =

@@ -1,14 +1,18 @@
 -- `why::clauses` meets its contract, by the rule.
-use Rattle.clause.proofs.StepLaws.{held-3, held-5, held-none}
+use mathlib.Core.Path.{sym}
+use Rattle.models.specs.Why.{clausesOf, immRings}
+use Rattle.clause.proofs.StepLaws.{held-rule, held-none}
 use borrow.Author.Needs.{needs}
 use Rattle.imm.proofs.why.clauses.Statement.{statement}
 use Rattle.imm.proofs.why.clauses.Tie as tie
 
 returns : tie.Need-returns
-returns c = held-3 _ _ _ _ (c .before .if1 .taken) (c .coherence .ensures)
+unfolding clausesOf
+returns c = held-rule immRings _ _ _ 3 (sym (c .before .if1 .taken)) (c .coherence .ensures)
 
 returns-2 : tie.Need-returns-2
-returns-2 c = held-5 _ _ _ _ (c .before .if2 .taken) (c .order .ensures)
+unfolding clausesOf
+returns-2 c = held-rule immRings _ _ _ 5 (sym (c .before .if2 .taken)) (c .order .ensures)
 
 returns-3 : tie.Need-returns-3
 returns-3 c = held-none _ _ _ _ (c .before .before .if1 .left) (c .before .if2 .left) (c .none .ensures _)

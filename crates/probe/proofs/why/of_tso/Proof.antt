@@ -2,14 +2,14 @@
 use mathlib.Core.Path.{sym, _∙_}
 use Rattle.recording.proofs.CauseLaws.{cause-goes-on}
 use Rattle.tso.specs.Judged.{Judged}
-use Rattle.models.specs.Why.{tsoRingClauses}
+use Rattle.models.specs.Why.{tsoRings}
 use Rattle.probe.proofs.WhyLaws.{explains-refused, explains-loaded}
 use borrow.Author.Needs.{needs}
 use Rattle.probe.proofs.why.of_tso.Statement.{statement}
 use Rattle.probe.proofs.why.of_tso.Tie as tie
 
 returns : tie.Need-returns
-returns c = explains-refused _ _ tsoRingClauses Judged _ _ _ _ (c .before .before .cause .ensures) (c .before .if1 .taken) (c .coded .ensures)
+returns c = explains-refused _ _ tsoRings Judged _ _ _ _ (c .before .before .cause .ensures) (c .before .if1 .taken) (c .coded .ensures)
 
 loaded-requires : tie.Need-loaded-requires
 loaded-requires c κs = cause-goes-on _ _ (sym (c .before .cause .ensures) ∙ c .if1 .left)
@@ -24,7 +24,7 @@ returns-2 : tie.Need-returns-2
 returns-2 c =
     let after-steps = c .before .before .before .before in
     let loaded = after-steps .before in
-    explains-loaded _ _ tsoRingClauses Judged _ _ _ _ (loaded .before .before .cause .ensures) (loaded .before .if1 .left) _ _ (loaded .loaded .ensures) _
+    explains-loaded _ _ tsoRings Judged _ _ _ _ (loaded .before .before .cause .ensures) (loaded .before .if1 .left) _ _ (loaded .loaded .ensures) _
     (after-steps .explained .ensures) (c .before .before .explained2 .ensures)
 
 pub of-tso-spec : {M : Type 1} → statement M

@@ -1,5 +1,5 @@
 -- `file::explained` meets its contract: by the arrays of the recording, and in its execution graph.
-use Rattle.models.specs.Why.{clausesOf, tsoRingClauses}
+use Rattle.models.specs.Why.{clausesOf, tsoRings}
 use Rattle.recording.proofs.Loaded.{loaded-within}
 use Rattle.verdict.specs.Answer.{ruleOf}
 use Rattle.execution.proofs.BaseOf.{steps-by-base}
@@ -20,7 +20,7 @@ returns : tie.Need-returns
 returns c =
     let start = c .before .before .before .before in
     tso-explains _ (loaded-within _ (start .pre .0 .loads)) _ (start .pre .1 .shown) _
-    (steps-by-base (clausesOf tsoRingClauses (ruleOf (start .args .v .answer))) _ _ _ _ _ (c .before .before .sets .ensures) (c .before .relations .ensures) (c .why .ensures))
+    (steps-by-base (clausesOf tsoRings (ruleOf (start .args .v .answer))) _ _ _ _ _ (c .before .before .sets .ensures) (c .before .relations .ensures) (c .why .ensures))
 
 pub explained-spec : {M : Type 1} → statement M
 explained-spec =

@@ -1,12 +1,12 @@
 -- `why::clauses` meets its contract, by the rule.
-use mathlib.Core.Path.{_≡_, refl}
+use mathlib.Core.Path.{_≡_, refl, sym}
 use Rattle.relation.specs.Rel.{nodes}
 use Rattle.relation.specs.Bits.{edge}
 use Rattle.models.specs.Graph.{Base}
 use Rattle.models.specs.Term.{eval, fr}
-use Rattle.models.specs.Why.{tsoRingClauses}
+use Rattle.models.specs.Why.{clausesOf, tsoRings}
 use Rattle.verdict.specs.Base.{baseOf}
-use Rattle.clause.proofs.StepLaws.{held-3, held-5, held-none}
+use Rattle.clause.proofs.StepLaws.{held-rule, held-none}
 use borrow.Author.Needs.{needs}
 use Rattle.tso.proofs.why.clauses.Statement.{statement}
 use Rattle.tso.proofs.why.clauses.Tie as tie
@@ -19,18 +19,18 @@ unfolding baseOf
 fr-is c = c .fr .ensures (base c) refl refl
 
 returns : tie.Need-returns
-unfolding baseOf
+unfolding baseOf clausesOf
 returns c =
     let then1 = c .before .before in
     let B = base (then1 .before) in
-    held-3 tsoRingClauses B _ _ (then1 .if1 .taken) (c .per-location .ensures B refl refl refl (fr-is (then1 .before)) refl)
+    held-rule tsoRings B _ _ 3 (sym (then1 .if1 .taken)) (c .per-location .ensures B refl refl refl (fr-is (then1 .before)) refl)
 
 returns-2 : tie.Need-returns-2
-unfolding baseOf
-returns-2 c = (let after-fr = c .before .before .before in held-5 tsoRingClauses (base after-fr) _ _ (c .before .if2 .taken) (c .clauses .ensures (fr-is after-fr)))
+unfolding baseOf clausesOf
+returns-2 c = (let after-fr = c .before .before .before in held-rule tsoRings (base after-fr) _ _ 5 (sym (c .before .if2 .taken)) (c .clauses .ensures (fr-is after-fr)))
 
 returns-3 : tie.Need-returns-3
-returns-3 c = held-none tsoRingClauses (base (c .before .before .before)) _ _ (c .before .before .if1 .left) (c .before .if2 .left) (c .none .ensures _)
+returns-3 c = held-none tsoRings (base (c .before .before .before)) _ _ (c .before .before .if1 .left) (c .before .if2 .left) (c .none .ensures _)
 
 pub clauses-spec : {M : Type 1} → statement M
 clauses-spec =
