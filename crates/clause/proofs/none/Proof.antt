@@ -8,8 +8,4 @@ returns : tie.Need-returns
 returns c = λ B. (let e = c .empty .ensures in record { clauses = λ n. e n ∷ e n ∷ e n ∷ e n ∷ e n ∷ e n ∷ e n ∷ e n ∷ e n ∷ e n ∷ e n ∷ e n ∷ e n ∷ e n ∷ [] })
 
 pub none-spec : {M : Type 1} → statement M
-none-spec =
-    tie.close
-    (tie.spec
-    (λ c κs. search needs)
-    returns)
+none-spec = tie.close (tie.spec (λ c κs. search needs) returns)

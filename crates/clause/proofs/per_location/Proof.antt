@@ -14,9 +14,4 @@ returns c =
     record { clauses = λ n. location n ∷ r n ∷ f n ∷ o n ∷ none n ∷ none n ∷ none n ∷ none n ∷ none n ∷ none n ∷ none n ∷ none n ∷ none n ∷ none n ∷ [] }
 
 pub per-location-spec : {M : Type 1} → statement M
-per-location-spec =
-    tie.close
-    (tie.spec
-    (λ c κs. search needs)
-    (λ c κs. search needs)
-    returns)
+per-location-spec = tie.close (tie.spec (λ c κs. search needs) (λ c κs. search needs) returns)

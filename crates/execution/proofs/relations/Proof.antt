@@ -42,24 +42,7 @@ returns c =
 pub relations-spec : {M : Type 1} → statement M
 relations-spec =
     tie.close
-    (tie.spec
-    same-location-requires
-    program-order-requires
-    rows-by-type-requires
-    (λ c. search needs)
-    (λ c κs. search needs)
-    (λ c. search needs)
-    (λ c κs. search needs)
-    coherence-requires
-    (λ c. search needs)
-    (λ c κs. search needs)
-    (λ c. search needs)
-    (λ c κs. search needs)
-    (λ c. search needs)
-    (λ c κs. search needs)
-    (λ c. search needs)
-    (λ c κs. search needs)
-    control-requires
-    (λ c. search needs)
-    (λ c κs. search needs)
+    (tie.spec same-location-requires program-order-requires rows-by-type-requires (λ c. search needs) (λ c κs. search needs) (λ c. search needs)
+    (λ c κs. search needs) coherence-requires (λ c. search needs) (λ c κs. search needs) (λ c. search needs) (λ c κs. search needs)
+    (λ c. search needs) (λ c κs. search needs) (λ c. search needs) (λ c κs. search needs) control-requires (λ c. search needs) (λ c κs. search needs)
     returns)

@@ -89,38 +89,8 @@ returns c =
 pub sets-spec : {M : Type 1} → statement M
 sets-spec =
     tie.close
-    (tie.spec
-    initial-requires
-    recorded-requires
-    sorted-requires
-    (λ c. search needs)
-    sorted-requires-2
-    (λ c. search needs)
-    sorted-requires-3
-    (λ c. search needs)
-    sorted-requires-4
-    (λ c. search needs)
-    sorted-requires-5
-    (λ c. search needs)
-    sorted-requires-6
-    (λ c. search needs)
-    (λ c. search needs)
-    (λ c κs. search needs)
-    (λ c κs. search needs)
-    (λ c. search needs)
-    (λ c. search needs)
-    (λ c κs. search needs)
-    (λ c. search needs)
-    (λ c. search needs)
-    (λ c. search needs)
-    (λ c. search needs)
-    (λ c. search needs)
-    (λ c. search needs)
-    (λ c κs. search needs)
-    (λ c. search needs)
-    (λ c κs. search needs)
-    (λ c. search needs)
-    (λ c. search needs)
-    (λ c. search needs)
-    (λ c. search needs)
-    returns)
+    (tie.spec initial-requires recorded-requires sorted-requires (λ c. search needs) sorted-requires-2 (λ c. search needs) sorted-requires-3
+    (λ c. search needs) sorted-requires-4 (λ c. search needs) sorted-requires-5 (λ c. search needs) sorted-requires-6 (λ c. search needs)
+    (λ c. search needs) (λ c κs. search needs) (λ c κs. search needs) (λ c. search needs) (λ c. search needs) (λ c κs. search needs)
+    (λ c. search needs) (λ c. search needs) (λ c. search needs) (λ c. search needs) (λ c. search needs) (λ c. search needs) (λ c κs. search needs)
+    (λ c. search needs) (λ c κs. search needs) (λ c. search needs) (λ c. search needs) (λ c. search needs) (λ c. search needs) returns)

@@ -28,12 +28,4 @@ returns c =
     (text-added (t .args .line) long (t .pre .0) _ _ _ (omega (arith, room, t .pre .1)) (c .before .put .ensures), refl)
 
 pub added-spec : {M : Type 1} → statement M
-added-spec =
-    tie.close
-    (tie.spec
-    (λ c. search needs)
-    array-share-prefix-from
-    slice-aggregate-put-2
-    put-requires
-    (λ c. search needs)
-    returns)
+added-spec = tie.close (tie.spec (λ c. search needs) array-share-prefix-from slice-aggregate-put-2 put-requires (λ c. search needs) returns)

@@ -47,13 +47,5 @@ returns-2 c = chip-explained _ _ _ _ _ (wrote (c .before .before) .begins) (c .e
 pub chip-steps-spec : {M : Type 1} → statement M
 chip-steps-spec =
     tie.close
-    (tie.spec
-    (λ c. search needs)
-    written-requires
-    (λ c. search needs)
-    (λ c. search needs)
-    array-share-prefix-bytes
-    slice-aggregate-explained
-    explained-requires
-    returns
-    returns-2)
+    (tie.spec (λ c. search needs) written-requires (λ c. search needs) (λ c. search needs) array-share-prefix-bytes slice-aggregate-explained
+    explained-requires returns returns-2)

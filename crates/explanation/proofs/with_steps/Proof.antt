@@ -49,15 +49,5 @@ returns c =
 pub with-steps-spec : {M : Type 1} → statement M
 with-steps-spec =
     tie.close
-    (tie.spec
-    Inv-loop
-    μ-loop
-    loop-holds
-    (λ c. search needs)
-    (λ c. search needs)
-    (λ c κs. search needs)
-    added-requires
-    (λ c. search needs)
-    (λ c. search needs)
-    loop-again
-    returns)
+    (tie.spec Inv-loop μ-loop loop-holds (λ c. search needs) (λ c. search needs) (λ c κs. search needs) added-requires (λ c. search needs)
+    (λ c. search needs) loop-again returns)

@@ -44,14 +44,5 @@ returns-2 c = chip-judged _ _ _ (wrote (c .before .before) .begins) (c .loaded .
 pub chip-spec : {M : Type 1} → statement M
 chip-spec =
     tie.close
-    (tie.spec
-    (λ c. search needs)
-    written-requires
-    (λ c. search needs)
-    (λ c κs. search needs)
-    (λ c. search needs)
-    array-share-prefix-bytes
-    slice-aggregate-loaded
-    loaded-requires
-    returns
-    returns-2)
+    (tie.spec (λ c. search needs) written-requires (λ c. search needs) (λ c κs. search needs) (λ c. search needs) array-share-prefix-bytes
+    slice-aggregate-loaded loaded-requires returns returns-2)

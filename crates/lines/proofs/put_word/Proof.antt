@@ -27,13 +27,4 @@ returns c = word-all _ _ _ _ (c .before .loop .inv) (c .loop-test .left)
 pub put-word-spec : {M : Type 1} → statement M
 put-word-spec =
     tie.close
-    (tie.spec
-    Inv-loop
-    μ-loop
-    loop-holds
-    (λ c. search needs)
-    put-requires
-    (λ c. search needs)
-    (λ c. search needs)
-    loop-again
-    returns)
+    (tie.spec Inv-loop μ-loop loop-holds (λ c. search needs) put-requires (λ c. search needs) (λ c. search needs) loop-again returns)

@@ -34,15 +34,5 @@ returns c = putting-all _ _ _ _ _ (c .before .loop .inv .1) (omega arith)
 pub put-spec : {M : Type 1} → statement M
 put-spec =
     tie.close
-    (tie.spec
-    Inv-loop
-    μ-loop
-    loop-holds
-    (λ c. search needs)
-    add-out
-    slice-write-out
-    (λ c. search needs)
-    (λ c. search needs)
-    loop-again
-    same-length
+    (tie.spec Inv-loop μ-loop loop-holds (λ c. search needs) add-out slice-write-out (λ c. search needs) (λ c. search needs) loop-again same-length
     returns)

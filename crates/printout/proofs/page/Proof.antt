@@ -18,12 +18,4 @@ written-requires c κs =
     sym (number .number .ensures ∙ ap numberOf (number .before .load .ensures) ∙ load-number _) ∙ c .before .if1 .left
 
 pub page-spec : {M : Type 1} → statement M
-page-spec =
-    tie.close
-    (tie.spec
-    (λ c κs. search needs)
-    (λ c κs. search needs)
-    returns
-    written-requires
-    (λ c. search needs)
-    (λ c. search needs))
+page-spec = tie.close (tie.spec (λ c κs. search needs) (λ c κs. search needs) returns written-requires (λ c. search needs) (λ c. search needs))

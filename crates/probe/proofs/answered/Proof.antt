@@ -17,12 +17,4 @@ unfolding codedAnswer
 returns-2 c = c .coded2 .ensures ∙ sym (ap (codedAnswer _) (c .before .before .filled2 .given .1))
 
 pub answered-spec : {M : Type 1} → statement M
-answered-spec =
-    tie.close
-    (tie.spec
-    (λ c. search needs)
-    (λ c κs. search needs)
-    (λ c. search needs)
-    coded-requires-2
-    returns
-    returns-2)
+answered-spec = tie.close (tie.spec (λ c. search needs) (λ c κs. search needs) (λ c. search needs) coded-requires-2 returns returns-2)

@@ -30,11 +30,4 @@ returns c =
 pub probe-judge-spec : {M : Type 1} → statement M
 probe-judge-spec =
     tie.close
-    (tie.spec
-    (λ c κs. search needs)
-    array-share-prefix-at
-    slice-aggregate-fill
-    (λ c κs. search needs)
-    answered-requires
-    (λ c. search needs)
-    returns)
+    (tie.spec (λ c κs. search needs) array-share-prefix-at slice-aggregate-fill (λ c κs. search needs) answered-requires (λ c. search needs) returns)

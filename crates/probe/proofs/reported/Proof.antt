@@ -39,16 +39,5 @@ returns-2 c =
 pub reported-spec : {M : Type 1} → statement M
 reported-spec =
     tie.close
-    (tie.spec
-    (λ c κs. search needs)
-    (λ c. search needs)
-    (λ c. search needs)
-    (λ c κs. search needs)
-    returns
-    (λ c. search needs)
-    array-share-prefix-at
-    slice-aggregate-fill
-    (λ c κs. search needs)
-    answered-requires
-    (λ c. search needs)
-    returns-2)
+    (tie.spec (λ c κs. search needs) (λ c. search needs) (λ c. search needs) (λ c κs. search needs) returns (λ c. search needs) array-share-prefix-at
+    slice-aggregate-fill (λ c κs. search needs) answered-requires (λ c. search needs) returns-2)

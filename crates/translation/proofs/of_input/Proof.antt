@@ -22,11 +22,4 @@ returns c =
     λ input read. fills-input _ _ (read-longest input (t .args .t1) (t .args .n) long read) _ _ _ (c .before .before .translate .ensures)
 
 pub of-input-spec : {M : Type 1} → statement M
-of-input-spec =
-    tie.close
-    (tie.spec
-    (λ c. search needs)
-    slice-aggregate-translate
-    (λ c κs. search needs)
-    (λ c. search needs)
-    returns)
+of-input-spec = tie.close (tie.spec (λ c. search needs) slice-aggregate-translate (λ c κs. search needs) (λ c. search needs) returns)

@@ -75,24 +75,6 @@ returns-2 c =
 pub written-spec : {M : Type 1} → statement M
 written-spec =
     tie.close
-    (tie.spec
-    ctrl-requires
-    new-events-requires
-    ends-requires
-    (λ c. search needs)
-    (λ c. search needs)
-    (λ c. search needs)
-    (λ c. search needs)
-    mul-length
-    add-length
-    returns
-    header-requires
-    (λ c. search needs)
-    (λ c κs. search needs)
-    write-events-requires
-    (λ c. search needs)
-    (λ c. search needs)
-    (λ c. search needs)
-    write-links-requires
-    (λ c. search needs)
-    returns-2)
+    (tie.spec ctrl-requires new-events-requires ends-requires (λ c. search needs) (λ c. search needs) (λ c. search needs) (λ c. search needs)
+    mul-length add-length returns header-requires (λ c. search needs) (λ c κs. search needs) write-events-requires (λ c. search needs)
+    (λ c. search needs) (λ c. search needs) write-links-requires (λ c. search needs) returns-2)

@@ -16,10 +16,4 @@ slice-aggregate-write c = (let p = c .before .before .of-input in let long : len
 pub main-spec : {M : Type 1} → statement M
 main-spec =
     tie.close
-    (tie.spec
-    (λ c κs. search needs)
-    (λ c κs. search needs)
-    array-share-prefix-at
-    slice-aggregate-write
-    (λ c κs. search needs)
-    (λ c. search needs))
+    (tie.spec (λ c κs. search needs) (λ c κs. search needs) array-share-prefix-at slice-aggregate-write (λ c κs. search needs) (λ c. search needs))

@@ -15,10 +15,4 @@ returns c =
     record { clauses = λ n. m n ∷ write n ∷ [] }
 
 pub aob-spec : {M : Type 1} → statement M
-aob-spec =
-    tie.close
-    (tie.spec
-    (λ c κs. search needs)
-    (λ c κs. search needs)
-    (λ c κs. search needs)
-    returns)
+aob-spec = tie.close (tie.spec (λ c κs. search needs) (λ c κs. search needs) (λ c κs. search needs) returns)

@@ -15,9 +15,4 @@ returns c =
     held-union 14 obClauses B _ (c .before .clauses .ensures f k) ob (ob-opened nodes B) _ (c .union .ensures)
 
 pub ob-spec : {M : Type 1} → statement M
-ob-spec =
-    tie.close
-    (tie.spec
-    (λ c κs. search needs)
-    (λ c κs. search needs)
-    returns)
+ob-spec = tie.close (tie.spec (λ c κs. search needs) (λ c κs. search needs) returns)

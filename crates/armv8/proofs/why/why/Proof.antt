@@ -8,10 +8,4 @@ returns : tie.Need-returns
 returns c = c .explained .ensures _ _ (held-rule _ _ _ _ _ (c .before .before .rule .ensures) (c .before .clauses .ensures))
 
 pub why-spec : {M : Type 1} → statement M
-why-spec =
-    tie.close
-    (tie.spec
-    (λ c κs. search needs)
-    (λ c κs. search needs)
-    (λ c κs. search needs)
-    returns)
+why-spec = tie.close (tie.spec (λ c κs. search needs) (λ c κs. search needs) (λ c κs. search needs) returns)

@@ -17,10 +17,4 @@ returns-3 : tie.Need-returns-3
 returns-3 c = put-as (sym (kept-other _ _ (c .before .if1 .left) (c .if2 .left))) (put-none _ (omega (arith, c .before .before .pre)))
 
 pub keep-spec : {M : Type 1} → statement M
-keep-spec =
-    tie.close
-    (tie.spec
-    returns
-    (λ c κs. search needs)
-    returns-2
-    returns-3)
+keep-spec = tie.close (tie.spec returns (λ c κs. search needs) returns-2 returns-3)

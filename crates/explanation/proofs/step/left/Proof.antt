@@ -14,10 +14,4 @@ returns-3 : tie.Need-returns-3
 returns-3 c = left-less _ _ (c .before .if1 .left) (c .if2 .left)
 
 pub left-spec : {M : Type 1} → statement M
-left-spec =
-    tie.close
-    (tie.spec
-    returns
-    returns-2
-    (λ c. search needs)
-    returns-3)
+left-spec = tie.close (tie.spec returns returns-2 (λ c. search needs) returns-3)

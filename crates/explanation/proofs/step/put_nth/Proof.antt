@@ -29,14 +29,5 @@ returns c = nth-all _ _ _ _ _ _ (c .before .loop .inv) (c .loop-test .left)
 pub put-nth-spec : {M : Type 1} → statement M
 put-nth-spec =
     tie.close
-    (tie.spec
-    Inv-loop
-    μ-loop
-    loop-holds
-    (λ c. search needs)
-    keep-requires
-    (λ c κs. search needs)
-    (λ c. search needs)
-    (λ c. search needs)
-    loop-again
+    (tie.spec Inv-loop μ-loop loop-holds (λ c. search needs) keep-requires (λ c κs. search needs) (λ c. search needs) (λ c. search needs) loop-again
     returns)

@@ -21,11 +21,4 @@ returns-3 c =
     put-named-none C _ _ _ _ (c .before .if1 .left) (c .if2 .left) (put-none (start .args .t) (omega (arith, start .pre .0)))
 
 pub put-ring-spec : {M : Type 1} → statement M
-put-ring-spec =
-    tie.close
-    (tie.spec
-    (λ c κs. search needs)
-    returns
-    (λ c κs. search needs)
-    returns-2
-    returns-3)
+put-ring-spec = tie.close (tie.spec (λ c κs. search needs) returns (λ c κs. search needs) returns-2 returns-3)

@@ -15,9 +15,4 @@ returns c =
     held-union 14 arClauses B _ (c .before .clauses .ensures l x i k h e) ar (ar-opened nodes B) _ (c .union .ensures)
 
 pub ar-spec : {M : Type 1} → statement M
-ar-spec =
-    tie.close
-    (tie.spec
-    (λ c κs. search needs)
-    (λ c κs. search needs)
-    returns)
+ar-spec = tie.close (tie.spec (λ c κs. search needs) (λ c κs. search needs) returns)

@@ -23,10 +23,4 @@ returns c =
     (steps-by-base (clausesOf immRings (ruleOf (start .args .v .answer))) _ _ _ _ _ (c .before .before .sets .ensures) (c .before .relations .ensures) (c .why .ensures))
 
 pub explained-spec : {M : Type 1} → statement M
-explained-spec =
-    tie.close
-    (tie.spec
-    sets-requires
-    relations-requires
-    why-requires
-    returns)
+explained-spec = tie.close (tie.spec sets-requires relations-requires why-requires returns)

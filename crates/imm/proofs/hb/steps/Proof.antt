@@ -16,10 +16,4 @@ returns c =
     holds (baseOf (a .sets) (a .t2)) (po ∪ sw) (is-union (given refl) (given (sync .synchronizes .ensures l x i)) (c .or .ensures))
 
 pub steps-spec : {M : Type 1} → statement M
-steps-spec =
-    tie.close
-    (tie.spec
-    (λ c κs. search needs)
-    (λ c. search needs)
-    (λ c κs. search needs)
-    returns)
+steps-spec = tie.close (tie.spec (λ c κs. search needs) (λ c. search needs) (λ c κs. search needs) returns)

@@ -18,12 +18,4 @@ returns-3 : tie.Need-returns-3
 returns-3 c = held-none _ _ _ _ (c .before .before .if1 .left) (c .before .if2 .left) (c .none .ensures _)
 
 pub clauses-spec : {M : Type 1} → statement M
-clauses-spec =
-    tie.close
-    (tie.spec
-    (λ c κs. search needs)
-    returns
-    (λ c κs. search needs)
-    returns-2
-    (λ c κs. search needs)
-    returns-3)
+clauses-spec = tie.close (tie.spec (λ c κs. search needs) returns (λ c κs. search needs) returns-2 (λ c κs. search needs) returns-3)

@@ -23,11 +23,4 @@ returns c =
     (text-begins (t .args .text) long (t .pre) _ _ (c .before .put .ensures), omega (arith, t .pre))
 
 pub line-spec : {M : Type 1} → statement M
-line-spec =
-    tie.close
-    (tie.spec
-    (λ c. search needs)
-    array-share-prefix-from
-    slice-aggregate-put-2
-    put-requires
-    returns)
+line-spec = tie.close (tie.spec (λ c. search needs) array-share-prefix-from slice-aggregate-put-2 put-requires returns)

@@ -52,18 +52,5 @@ returns-3 c =
 pub printed-spec : {M : Type 1} → statement M
 printed-spec =
     tie.close
-    (tie.spec
-    (λ c κs. search needs)
-    (λ c. search needs)
-    (λ c. search needs)
-    (λ c κs. search needs)
-    (λ c κs. search needs)
-    (λ c κs. search needs)
-    (λ c κs. search needs)
-    returns
-    loaded-requires
-    starred-requires
-    returns-2
-    loaded-requires-2
-    starred-requires-2
-    returns-3)
+    (tie.spec (λ c κs. search needs) (λ c. search needs) (λ c. search needs) (λ c κs. search needs) (λ c κs. search needs) (λ c κs. search needs)
+    (λ c κs. search needs) returns loaded-requires starred-requires returns-2 loaded-requires-2 starred-requires-2 returns-3)

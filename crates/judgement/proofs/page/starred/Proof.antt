@@ -29,13 +29,5 @@ returns-2 c =
 pub starred-spec : {M : Type 1} → statement M
 starred-spec =
     tie.close
-    (tie.spec
-    (λ c κs. search needs)
-    array-share-prefix-ring
-    slice-aggregate-written
-    (λ c. search needs)
-    (λ c κs. search needs)
-    (λ c. search needs)
-    (λ c. search needs)
-    returns
-    returns-2)
+    (tie.spec (λ c κs. search needs) array-share-prefix-ring slice-aggregate-written (λ c. search needs) (λ c κs. search needs) (λ c. search needs)
+    (λ c. search needs) returns returns-2)

@@ -34,13 +34,4 @@ returns-2 c = λ l w. sym (ap (λ (n : ℕ). allMet n l) (omega arith) ∙ c .be
 pub all-marked-spec : {M : Type 1} → statement M
 all-marked-spec =
     tie.close
-    (tie.spec
-    Inv-loop
-    μ-loop
-    loop-holds
-    (λ c. search needs)
-    (λ c. search needs)
-    returns
-    (λ c. search needs)
-    loop-again
-    returns-2)
+    (tie.spec Inv-loop μ-loop loop-holds (λ c. search needs) (λ c. search needs) returns (λ c. search needs) loop-again returns-2)

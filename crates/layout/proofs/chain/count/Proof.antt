@@ -44,16 +44,4 @@ returns-3 : tie.Need-returns-3 Inv-loop μ-loop
 returns-3 c = count-done _ _ _ _ _ (c .before .loop .inv .1) (c .loop-test .left)
 
 pub count-spec : {M : Type 1} → statement M
-count-spec =
-    tie.close
-    (tie.spec
-    Inv-loop
-    μ-loop
-    loop-holds
-    returns
-    add-n
-    returns-2
-    moved-requires
-    loop-less
-    loop-again
-    returns-3)
+count-spec = tie.close (tie.spec Inv-loop μ-loop loop-holds returns add-n returns-2 moved-requires loop-less loop-again returns-3)

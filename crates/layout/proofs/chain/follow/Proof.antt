@@ -75,22 +75,5 @@ returns-4 c =
 pub follow-spec : {M : Type 1} → statement M
 follow-spec =
     tie.close
-    (tie.spec
-    Inv-loop
-    μ-loop
-    add-n
-    loop-holds
-    same-length
-    returns
-    same-length-2
-    returns-2
-    slice-read-if3
-    same-length-3
-    returns-3
-    (λ c. search needs)
-    moved-requires
-    (λ c. search needs)
-    (λ c. search needs)
-    loop-again
-    same-length-4
-    returns-4)
+    (tie.spec Inv-loop μ-loop add-n loop-holds same-length returns same-length-2 returns-2 slice-read-if3 same-length-3 returns-3 (λ c. search needs)
+    moved-requires (λ c. search needs) (λ c. search needs) loop-again same-length-4 returns-4)

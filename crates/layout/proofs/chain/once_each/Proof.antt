@@ -48,16 +48,5 @@ returns-2 c =
 pub once-each-spec : {M : Type 1} → statement M
 once-each-spec =
     tie.close
-    (tie.spec
-    Inv-loop
-    μ-loop
-    loop-holds
-    start-requires
-    (λ c. search needs)
-    follow-requires
-    returns
-    (λ c. search needs)
-    (λ c. search needs)
-    loop-again
-    all-marked-requires
-    returns-2)
+    (tie.spec Inv-loop μ-loop loop-holds start-requires (λ c. search needs) follow-requires returns (λ c. search needs) (λ c. search needs) loop-again
+    all-marked-requires returns-2)

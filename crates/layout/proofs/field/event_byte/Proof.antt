@@ -15,11 +15,4 @@ returns c = (refl, omega (arith, c .shared-slice-known .given (8 + 8 * (c .befor
 pub event-byte-spec : {M : Type 1} → statement M
 event-byte-spec =
     tie.close
-    (tie.spec
-    (λ c. search needs)
-    (λ c. search needs)
-    (λ c. search needs)
-    (λ c. search needs)
-    (λ c. search needs)
-    cast-result
-    returns)
+    (tie.spec (λ c. search needs) (λ c. search needs) (λ c. search needs) (λ c. search needs) (λ c. search needs) cast-result returns)

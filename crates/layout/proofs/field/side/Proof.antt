@@ -8,10 +8,4 @@ cast-side-of : tie.Need-cast-side-of
 cast-side-of c = omega (arith, c .shared-slice-known2 .given 0)
 
 pub side-spec : {M : Type 1} → statement M
-side-spec =
-    tie.close
-    (tie.spec
-    (λ c. search needs)
-    cast-side-of
-    (λ c κs. search needs)
-    (λ c. search needs))
+side-spec = tie.close (tie.spec (λ c. search needs) cast-side-of (λ c κs. search needs) (λ c. search needs))

@@ -52,25 +52,6 @@ returns c =
 pub block-spec : {M : Type 1} → statement M
 block-spec =
     tie.close
-    (tie.spec
-    (λ c κs. search needs)
-    (λ c κs. search needs)
-    (λ c. search needs)
-    (λ c. search needs)
-    class-of-requires
-    letter-requires
-    mode-of-requires
-    (λ c. search needs)
-    add-t18
-    flag-of-requires
-    (λ c. search needs)
-    add-t21
-    (λ c. search needs)
-    (λ c. search needs)
-    (λ c. search needs)
-    (λ c. search needs)
-    (λ c. search needs)
-    (λ c. search needs)
-    (λ c. search needs)
-    star-requires
-    returns)
+    (tie.spec (λ c κs. search needs) (λ c κs. search needs) (λ c. search needs) (λ c. search needs) class-of-requires letter-requires mode-of-requires
+    (λ c. search needs) add-t18 flag-of-requires (λ c. search needs) add-t21 (λ c. search needs) (λ c. search needs) (λ c. search needs)
+    (λ c. search needs) (λ c. search needs) (λ c. search needs) (λ c. search needs) star-requires returns)

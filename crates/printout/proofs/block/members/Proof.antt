@@ -31,15 +31,5 @@ returns c = members-all _ _ _ (c .loop-test .left) (c .before .loop .inv .1)
 pub members-spec : {M : Type 1} → statement M
 members-spec =
     tie.close
-    (tie.spec
-    Inv-loop
-    μ-loop
-    (λ c κs. search needs)
-    loop-holds
-    (λ c. search needs)
-    cast-with
-    (λ c κs. search needs)
-    (λ c. search needs)
-    (λ c. search needs)
-    loop-again
-    returns)
+    (tie.spec Inv-loop μ-loop (λ c κs. search needs) loop-holds (λ c. search needs) cast-with (λ c κs. search needs) (λ c. search needs)
+    (λ c. search needs) loop-again returns)

@@ -43,17 +43,5 @@ returns-2 c =
 pub place-spec : {M : Type 1} → statement M
 place-spec =
     tie.close
-    (tie.spec
-    class-of-requires
-    returns
-    location-of-requires
-    value-of-requires
-    (λ c κs. search needs)
-    cast-t8
-    add-t9
-    (λ c. search needs)
-    (λ c. search needs)
-    (λ c. search needs)
-    (λ c. search needs)
-    (λ c. search needs)
-    returns-2)
+    (tie.spec class-of-requires returns location-of-requires value-of-requires (λ c κs. search needs) cast-t8 add-t9 (λ c. search needs)
+    (λ c. search needs) (λ c. search needs) (λ c. search needs) (λ c. search needs) returns-2)

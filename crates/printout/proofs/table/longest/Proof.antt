@@ -43,13 +43,4 @@ returns c =
 pub longest-spec : {M : Type 1} → statement M
 longest-spec =
     tie.close
-    (tie.spec
-    Inv-loop
-    μ-loop
-    loop-holds
-    length-of-requires
-    (λ c κs. search needs)
-    (λ c. search needs)
-    (λ c. search needs)
-    loop-again
-    returns)
+    (tie.spec Inv-loop μ-loop loop-holds length-of-requires (λ c κs. search needs) (λ c. search needs) (λ c. search needs) loop-again returns)

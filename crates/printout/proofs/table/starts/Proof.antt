@@ -45,15 +45,4 @@ returns c = started-all _ _ _ _ (c .before .loop .inv .1) (c .loop-test .left)
 pub starts-spec : {M : Type 1} → statement M
 starts-spec =
     tie.close
-    (tie.spec
-    Inv-loop
-    μ-loop
-    loop-holds
-    length-of-requires
-    add-n
-    (λ c. search needs)
-    cast-r
-    array-write-r
-    (λ c. search needs)
-    loop-again
-    returns)
+    (tie.spec Inv-loop μ-loop loop-holds length-of-requires add-n (λ c. search needs) cast-r array-write-r (λ c. search needs) loop-again returns)

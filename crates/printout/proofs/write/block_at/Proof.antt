@@ -37,15 +37,5 @@ returns-2 c =
 pub block-at-spec : {M : Type 1} → statement M
 block-at-spec =
     tie.close
-    (tie.spec
-    (λ c. search needs)
-    (λ c. search needs)
-    add-i
-    (λ c. search needs)
-    (λ c. search needs)
-    (λ c. search needs)
-    returns
-    array-read-block
-    (λ c. search needs)
-    block-requires
-    returns-2)
+    (tie.spec (λ c. search needs) (λ c. search needs) add-i (λ c. search needs) (λ c. search needs) (λ c. search needs) returns array-read-block
+    (λ c. search needs) block-requires returns-2)

@@ -68,23 +68,5 @@ returns c =
 pub line-spec : {M : Type 1} → statement M
 line-spec =
     tie.close
-    (tie.spec
-    Inv-loop
-    μ-loop
-    loop-holds
-    block-at-requires
-    mul-put
-    (λ c. search needs)
-    add-put
-    (λ c. search needs)
-    put-requires
-    (λ c. search needs)
-    (λ c. search needs)
-    loop-again
-    mul-put-3
-    (λ c. search needs)
-    add-put-2
-    (λ c. search needs)
-    put-requires-2
-    same-length
-    returns)
+    (tie.spec Inv-loop μ-loop loop-holds block-at-requires mul-put (λ c. search needs) add-put (λ c. search needs) put-requires (λ c. search needs)
+    (λ c. search needs) loop-again mul-put-3 (λ c. search needs) add-put-2 (λ c. search needs) put-requires-2 same-length returns)

@@ -43,14 +43,5 @@ returns c =
 pub explained-spec : {M : Type 1} → statement M
 explained-spec =
     tie.close
-    (tie.spec
-    (λ c κs. search needs)
-    (λ c κs. search needs)
-    (λ c κs. search needs)
-    (λ c. search needs)
-    array-share-prefix-at
-    slice-aggregate-fill
-    (λ c κs. search needs)
-    answered-requires
-    (λ c. search needs)
-    returns)
+    (tie.spec (λ c κs. search needs) (λ c κs. search needs) (λ c κs. search needs) (λ c. search needs) array-share-prefix-at slice-aggregate-fill
+    (λ c κs. search needs) answered-requires (λ c. search needs) returns)

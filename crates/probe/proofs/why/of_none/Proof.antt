@@ -18,12 +18,4 @@ returns-2 c =
     none-loads _ _ _ _ (n .number .ensures ∙ ap numberOf (n .before .load .ensures) ∙ load-number _) (c .before .if1 .left) (c .coded2 .ensures)
 
 pub of-none-spec : {M : Type 1} → statement M
-of-none-spec =
-    tie.close
-    (tie.spec
-    (λ c κs. search needs)
-    (λ c κs. search needs)
-    (λ c κs. search needs)
-    returns
-    (λ c κs. search needs)
-    returns-2)
+of-none-spec = tie.close (tie.spec (λ c κs. search needs) (λ c κs. search needs) (λ c κs. search needs) returns (λ c κs. search needs) returns-2)

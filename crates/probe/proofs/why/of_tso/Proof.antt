@@ -30,12 +30,5 @@ returns-2 c =
 pub of-tso-spec : {M : Type 1} → statement M
 of-tso-spec =
     tie.close
-    (tie.spec
-    (λ c κs. search needs)
-    (λ c κs. search needs)
-    returns
-    loaded-requires
-    explained-requires
-    explained-requires-2
-    (λ c. search needs)
+    (tie.spec (λ c κs. search needs) (λ c κs. search needs) returns loaded-requires explained-requires explained-requires-2 (λ c. search needs)
     returns-2)

@@ -46,18 +46,5 @@ returns c = (let inv = c .before .loop .inv in locating-all _ (inv .1) _ _ (c .l
 pub by-location-spec : {M : Type 1} → statement M
 by-location-spec =
     tie.close
-    (tie.spec
-    Inv-loop
-    μ-loop
-    (λ c κs. search needs)
-    loop-holds
-    place-of-requires
-    (λ c. search needs)
-    (λ c. search needs)
-    (λ c κs. search needs)
-    (λ c. search needs)
-    (λ c. search needs)
-    following-requires
-    loop-less
-    loop-again
-    returns)
+    (tie.spec Inv-loop μ-loop (λ c κs. search needs) loop-holds place-of-requires (λ c. search needs) (λ c. search needs) (λ c κs. search needs)
+    (λ c. search needs) (λ c. search needs) following-requires loop-less loop-again returns)

@@ -19,12 +19,5 @@ returns c =
 pub co-steps-spec : {M : Type 1} → statement M
 co-steps-spec =
     tie.close
-    (tie.spec
-    (λ c κs. search needs)
-    sorted-requires
-    (λ c κs. search needs)
-    (λ c. search needs)
-    (λ c κs. search needs)
-    (λ c κs. search needs)
-    (λ c κs. search needs)
-    returns)
+    (tie.spec (λ c κs. search needs) sorted-requires (λ c κs. search needs) (λ c. search needs) (λ c κs. search needs) (λ c κs. search needs)
+    (λ c κs. search needs) returns)

@@ -89,25 +89,6 @@ returns c = (let inv = c .before .loop .inv in backward-all _ (inv .2) _ _ (c .l
 pub program-order-spec : {M : Type 1} → statement M
 program-order-spec =
     tie.close
-    (tie.spec
-    Inv-loop
-    μ-loop
-    (λ c κs. search needs)
-    (λ c κs. search needs)
-    (λ c κs. search needs)
-    (λ c κs. search needs)
-    loop-holds
-    (λ c. search needs)
-    array-read-e
-    (λ c. search needs)
-    event-byte-requires
-    mul-later
-    array-copy-out-later
-    with-requires
-    mul-h
-    array-set-from-h
-    (λ c. search needs)
-    loop-again
-    (λ c. search needs)
-    loop-again-2
-    returns)
+    (tie.spec Inv-loop μ-loop (λ c κs. search needs) (λ c κs. search needs) (λ c κs. search needs) (λ c κs. search needs) loop-holds
+    (λ c. search needs) array-read-e (λ c. search needs) event-byte-requires mul-later array-copy-out-later with-requires mul-h array-set-from-h
+    (λ c. search needs) loop-again (λ c. search needs) loop-again-2 returns)

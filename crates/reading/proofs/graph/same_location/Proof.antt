@@ -51,19 +51,5 @@ returns c = (let inv = c .before .loop .inv in rows-all _ _ _ _ (c .loop-test .l
 pub same-location-spec : {M : Type 1} → statement M
 same-location-spec =
     tie.close
-    (tie.spec
-    Inv-loop
-    μ-loop
-    (λ c κs. search needs)
-    (λ c κs. search needs)
-    (λ c κs. search needs)
-    loop-holds
-    place-of-requires
-    (λ c. search needs)
-    (λ c. search needs)
-    (λ c. search needs)
-    (λ c. search needs)
-    following-requires
-    loop-less
-    loop-again
-    returns)
+    (tie.spec Inv-loop μ-loop (λ c κs. search needs) (λ c κs. search needs) (λ c κs. search needs) loop-holds place-of-requires (λ c. search needs)
+    (λ c. search needs) (λ c. search needs) (λ c. search needs) following-requires loop-less loop-again returns)

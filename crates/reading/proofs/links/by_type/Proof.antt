@@ -86,27 +86,6 @@ returns-2 c =
 pub by-type-spec : {M : Type 1} → statement M
 by-type-spec =
     tie.close
-    (tie.spec
-    Inv-loop
-    μ-loop
-    (λ c κs. search needs)
-    (λ c. search needs)
-    (λ c. search needs)
-    (λ c κs. search needs)
-    (λ c. search needs)
-    (λ c. search needs)
-    start-requires
-    loop-holds
-    returns
-    link-byte-requires
-    (λ c. search needs)
-    (λ c. search needs)
-    link-byte-requires-2
-    with-requires
-    (λ c. search needs)
-    (λ c. search needs)
-    moved-requires
-    (λ c. search needs)
-    (λ c. search needs)
-    loop-again
-    returns-2)
+    (tie.spec Inv-loop μ-loop (λ c κs. search needs) (λ c. search needs) (λ c. search needs) (λ c κs. search needs) (λ c. search needs)
+    (λ c. search needs) start-requires loop-holds returns link-byte-requires (λ c. search needs) (λ c. search needs) link-byte-requires-2
+    with-requires (λ c. search needs) (λ c. search needs) moved-requires (λ c. search needs) (λ c. search needs) loop-again returns-2)

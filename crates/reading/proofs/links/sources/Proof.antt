@@ -93,24 +93,6 @@ returns-2 c =
 pub sources-spec : {M : Type 1} → statement M
 sources-spec =
     tie.close
-    (tie.spec
-    Inv-loop
-    μ-loop
-    (λ c κs. search needs)
-    (λ c. search needs)
-    (λ c. search needs)
-    (λ c κs. search needs)
-    (λ c κs. search needs)
-    (λ c. search needs)
-    (λ c. search needs)
-    start-requires
-    loop-holds
-    returns
-    link-byte-requires
-    with-requires
-    link-byte-requires-2
-    moved-requires
-    (λ c. search needs)
-    (λ c. search needs)
-    loop-again
-    returns-2)
+    (tie.spec Inv-loop μ-loop (λ c κs. search needs) (λ c. search needs) (λ c. search needs) (λ c κs. search needs) (λ c κs. search needs)
+    (λ c. search needs) (λ c. search needs) start-requires loop-holds returns link-byte-requires with-requires link-byte-requires-2 moved-requires
+    (λ c. search needs) (λ c. search needs) loop-again returns-2)

@@ -46,17 +46,4 @@ returns : tie.Need-returns Inv-loop μ-loop
 returns c = partway-done _ _ _ _ _ (c .before .before .loop .inv .1) (c .if1 .left)
 
 pub along-spec : {M : Type 1} → statement M
-along-spec =
-    tie.close
-    (tie.spec
-    Inv-loop
-    μ-loop
-    start-requires
-    loop-holds
-    cast-at
-    array-write-at
-    add-len
-    moved-requires
-    loop-less
-    loop-again
-    returns)
+along-spec = tie.close (tie.spec Inv-loop μ-loop start-requires loop-holds cast-at array-write-at add-len moved-requires loop-less loop-again returns)

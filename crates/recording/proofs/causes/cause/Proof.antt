@@ -18,13 +18,4 @@ unfolding first
 returns-3 c = cause-side _ _ _ _ (c .before .before .before .before .load .ensures) (c .before .before .answer .given .1) false (c .if1 .left)
 
 pub cause-spec : {M : Type 1} → statement M
-cause-spec =
-    tie.close
-    (tie.spec
-    (λ c κs. search needs)
-    (λ c. search needs)
-    (λ c. search needs)
-    (λ c κs. search needs)
-    returns
-    returns-2
-    returns-3)
+cause-spec = tie.close (tie.spec (λ c κs. search needs) (λ c. search needs) (λ c. search needs) (λ c κs. search needs) returns returns-2 returns-3)

@@ -10,10 +10,4 @@ returns c = chains-are _ _ _ _ (c .before .before .events .ensures .0) (c .befor
 pub chains-sound-spec : {M : Type 1} → statement M
 chains-sound-spec =
     tie.close
-    (tie.spec
-    (λ c κs. search needs)
-    (λ c κs. search needs)
-    (λ c. search needs)
-    (λ c. search needs)
-    (λ c κs. search needs)
-    returns)
+    (tie.spec (λ c κs. search needs) (λ c κs. search needs) (λ c. search needs) (λ c. search needs) (λ c κs. search needs) returns)

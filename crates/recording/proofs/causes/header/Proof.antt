@@ -25,14 +25,5 @@ returns c =
 pub header-spec : {M : Type 1} → statement M
 header-spec =
     tie.close
-    (tie.spec
-    (λ c. search needs)
-    cast-side-of
-    (λ c κs. search needs)
-    (λ c. search needs)
-    cast-t8
-    (λ c. search needs)
-    cast-t11
-    (λ c. search needs)
-    cast-t14
-    returns)
+    (tie.spec (λ c. search needs) cast-side-of (λ c κs. search needs) (λ c. search needs) cast-t8 (λ c. search needs) cast-t11 (λ c. search needs)
+    cast-t14 returns)

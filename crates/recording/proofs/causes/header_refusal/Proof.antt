@@ -92,24 +92,5 @@ returns-5 c = (sym (none-more 3 (headerCauses _) refl (none-3 (c .before)) (ap n
 pub header-refusal-spec : {M : Type 1} → statement M
 header-refusal-spec =
     tie.close
-    (tie.spec
-    returns
-    (λ c. search needs)
-    cast-kind
-    (λ c κs. search needs)
-    returns-2
-    (λ c. search needs)
-    cast-n
-    (λ c. search needs)
-    cast-l
-    (λ c. search needs)
-    cast-m
-    (λ c κs. search needs)
-    (λ c κs. search needs)
-    returns-3
-    mul-if4
-    add-if4
-    mul-if4-2
-    add-if4-2
-    returns-4
-    returns-5)
+    (tie.spec returns (λ c. search needs) cast-kind (λ c κs. search needs) returns-2 (λ c. search needs) cast-n (λ c. search needs) cast-l
+    (λ c. search needs) cast-m (λ c κs. search needs) (λ c κs. search needs) returns-3 mul-if4 add-if4 mul-if4-2 add-if4-2 returns-4 returns-5)

@@ -68,12 +68,5 @@ returns-4 c = sym (none-more 2 (linkCauses _) refl (none-2 (c .before .before)) 
 pub link-refusal-spec : {M : Type 1} → statement M
 link-refusal-spec =
     tie.close
-    (tie.spec
-    program-order-requires
-    links-sound-requires
-    returns
-    (λ c κs. readable c)
-    returns-2
-    (λ c κs. readable (c .before .before))
-    returns-3
+    (tie.spec program-order-requires links-sound-requires returns (λ c κs. readable c) returns-2 (λ c κs. readable (c .before .before)) returns-3
     returns-4)

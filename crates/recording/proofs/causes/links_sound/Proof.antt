@@ -49,14 +49,4 @@ returns-2 c =
 pub links-sound-spec : {M : Type 1} → statement M
 links-sound-spec =
     tie.close
-    (tie.spec
-    Inv-loop
-    μ-loop
-    events-requires
-    loop-holds
-    (λ c. search needs)
-    sound-into-requires
-    returns
-    (λ c. search needs)
-    loop-again
-    returns-2)
+    (tie.spec Inv-loop μ-loop events-requires loop-holds (λ c. search needs) sound-into-requires returns (λ c. search needs) loop-again returns-2)

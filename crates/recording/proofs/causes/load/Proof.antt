@@ -52,12 +52,4 @@ returns-4 c =
 pub load-spec : {M : Type 1} → statement M
 load-spec =
     tie.close
-    (tie.spec
-    (λ c κs. search needs)
-    returns
-    record-refusal-requires
-    returns-2
-    link-refusal-requires
-    returns-3
-    header-requires
-    returns-4)
+    (tie.spec (λ c κs. search needs) returns record-refusal-requires returns-2 link-refusal-requires returns-3 header-requires returns-4)

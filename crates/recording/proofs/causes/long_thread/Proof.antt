@@ -45,13 +45,4 @@ returns-2 c =
 pub long-thread-spec : {M : Type 1} → statement M
 long-thread-spec =
     tie.close
-    (tie.spec
-    Inv-loop
-    μ-loop
-    loop-holds
-    too-long-requires
-    returns
-    (λ c. search needs)
-    (λ c. search needs)
-    loop-again
-    returns-2)
+    (tie.spec Inv-loop μ-loop loop-holds too-long-requires returns (λ c. search needs) (λ c. search needs) loop-again returns-2)

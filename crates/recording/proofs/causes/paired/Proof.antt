@@ -45,14 +45,4 @@ returns-2 c =
 pub paired-spec : {M : Type 1} → statement M
 paired-spec =
     tie.close
-    (tie.spec
-    Inv-loop
-    μ-loop
-    events-requires
-    loop-holds
-    (λ c. search needs)
-    paired-at-requires
-    returns
-    (λ c. search needs)
-    loop-again
-    returns-2)
+    (tie.spec Inv-loop μ-loop events-requires loop-holds (λ c. search needs) paired-at-requires returns (λ c. search needs) loop-again returns-2)

@@ -50,13 +50,5 @@ returns-5 c = sym (none-more 3 (recordCauses _) refl (none-3 (c .before .before)
 pub record-refusal-spec : {M : Type 1} → statement M
 record-refusal-spec =
     tie.close
-    (tie.spec
-    (λ c κs. search needs)
-    returns
-    (λ c κs. search needs)
-    returns-2
-    (λ c κs. search needs)
-    returns-3
-    (λ c κs. search needs)
-    returns-4
+    (tie.spec (λ c κs. search needs) returns (λ c κs. search needs) returns-2 (λ c κs. search needs) returns-3 (λ c κs. search needs) returns-4
     returns-5)

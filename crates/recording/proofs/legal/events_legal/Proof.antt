@@ -44,14 +44,5 @@ returns-2 c =
 pub events-legal-spec : {M : Type 1} → statement M
 events-legal-spec =
     tie.close
-    (tie.spec
-    Inv-loop
-    μ-loop
-    (λ c κs. search needs)
-    loop-holds
-    (λ c. search needs)
-    event-legal-requires
-    returns
-    (λ c. search needs)
-    loop-again
+    (tie.spec Inv-loop μ-loop (λ c κs. search needs) loop-holds (λ c. search needs) event-legal-requires returns (λ c. search needs) loop-again
     returns-2)

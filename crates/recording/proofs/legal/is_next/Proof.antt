@@ -26,12 +26,4 @@ returns-3 c =
     (c .before .is-recorded2 .ensures) (c .if2 .left)
 
 pub is-next-spec : {M : Type 1} → statement M
-is-next-spec =
-    tie.close
-    (tie.spec
-    (λ c κs. search needs)
-    returns
-    (λ c κs. search needs)
-    event-byte-requires
-    returns-2
-    returns-3)
+is-next-spec = tie.close (tie.spec (λ c κs. search needs) returns (λ c κs. search needs) event-byte-requires returns-2 returns-3)

@@ -32,15 +32,5 @@ returns-7 c = legal-other _ _ _ _ _ _ _ (c .before .before .if1 .left) (c .befor
 pub legal-spec : {M : Type 1} → statement M
 legal-spec =
     tie.close
-    (tie.spec
-    (λ c κs. search needs)
-    returns
-    returns-2
-    (λ c κs. search needs)
-    returns-3
-    returns-4
-    (λ c κs. search needs)
-    (λ c κs. search needs)
-    returns-5
-    returns-6
-    returns-7)
+    (tie.spec (λ c κs. search needs) returns returns-2 (λ c κs. search needs) returns-3 returns-4 (λ c κs. search needs) (λ c κs. search needs)
+    returns-5 returns-6 returns-7)

@@ -29,12 +29,4 @@ returns-2 c =
     and-no _ _ _ (link-read _ _ _ _ _ _ _ (c .before .before .before .link-byte .ensures .0) (c .before .before .link-byte2 .ensures .0) (c .before .link-legal .ensures)) (c .if1 .left)
 
 pub link-sound-spec : {M : Type 1} → statement M
-link-sound-spec =
-    tie.close
-    (tie.spec
-    (λ c κs. search needs)
-    (λ c κs. search needs)
-    link-legal-requires
-    (λ c κs. search needs)
-    returns
-    returns-2)
+link-sound-spec = tie.close (tie.spec (λ c κs. search needs) (λ c κs. search needs) link-legal-requires (λ c κs. search needs) returns returns-2)

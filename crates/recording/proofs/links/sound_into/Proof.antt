@@ -162,31 +162,7 @@ returns-3 c =
 pub sound-into-spec : {M : Type 1} → statement M
 sound-into-spec =
     tie.close
-    (tie.spec
-    Inv-loop
-    μ-loop
-    events-requires
-    (λ c. search needs)
-    (λ c. search needs)
-    (λ c κs. search needs)
-    links-requires
-    (λ c. search needs)
-    (λ c. search needs)
-    start-requires
-    loop-holds
-    (λ c κs. search needs)
-    returns
-    link-byte-requires
-    mul-after
-    array-copy-out-after
-    has-requires
-    link-sound-requires
-    returns-2
-    with-requires
-    link-byte-requires-2
-    moved-requires
-    (λ c. search needs)
-    (λ c. search needs)
-    loop-again
-    (λ c κs. search needs)
-    returns-3)
+    (tie.spec Inv-loop μ-loop events-requires (λ c. search needs) (λ c. search needs) (λ c κs. search needs) links-requires (λ c. search needs)
+    (λ c. search needs) start-requires loop-holds (λ c κs. search needs) returns link-byte-requires mul-after array-copy-out-after has-requires
+    link-sound-requires returns-2 with-requires link-byte-requires-2 moved-requires (λ c. search needs) (λ c. search needs) loop-again
+    (λ c κs. search needs) returns-3)

@@ -37,13 +37,4 @@ returns c =
 pub smallest-at-spec : {M : Type 1} → statement M
 smallest-at-spec =
     tie.close
-    (tie.spec
-    Inv-loop
-    μ-loop
-    loop-holds
-    (λ c. search needs)
-    array-read-if1-2
-    (λ c. search needs)
-    (λ c. search needs)
-    loop-again
-    returns)
+    (tie.spec Inv-loop μ-loop loop-holds (λ c. search needs) array-read-if1-2 (λ c. search needs) (λ c. search needs) loop-again returns)

@@ -44,21 +44,6 @@ returns c = back-all _ _ _ _ _ _ _ (c .before .loop .inv .2) (c .loop-test .left
 pub steps-back-spec : {M : Type 1} → statement M
 steps-back-spec =
     tie.close
-    (tie.spec
-    Inv-loop
-    μ-loop
-    (λ c. search needs)
-    (λ c. search needs)
-    loop-holds
-    (λ c. search needs)
-    (λ c. search needs)
-    (λ c. search needs)
-    (λ c. search needs)
-    (λ c. search needs)
-    (λ c κs. search needs)
-    (λ c κs. search needs)
-    cast-at-2
-    (λ c. search needs)
-    (λ c. search needs)
-    loop-again
+    (tie.spec Inv-loop μ-loop (λ c. search needs) (λ c. search needs) loop-holds (λ c. search needs) (λ c. search needs) (λ c. search needs)
+    (λ c. search needs) (λ c. search needs) (λ c κs. search needs) (λ c κs. search needs) cast-at-2 (λ c. search needs) (λ c. search needs) loop-again
     returns)

@@ -32,15 +32,5 @@ returns c = turning-all _ _ _ _ _ (c .loop-test .left) (c .before .loop .inv .3)
 pub turned-spec : {M : Type 1} → statement M
 turned-spec =
     tie.close
-    (tie.spec
-    Inv-loop
-    μ-loop
-    (λ c κs. search needs)
-    loop-holds
-    (λ c κs. search needs)
-    array-read-out
-    (λ c. search needs)
-    (λ c. search needs)
-    (λ c. search needs)
-    loop-again
-    returns)
+    (tie.spec Inv-loop μ-loop (λ c κs. search needs) loop-holds (λ c κs. search needs) array-read-out (λ c. search needs) (λ c. search needs)
+    (λ c. search needs) loop-again returns)

@@ -28,14 +28,5 @@ returns c = fun-ext (bytes-all bitAnd _&&_ on-and refl _ _ _ _ (c .loop-test .le
 pub and-spec : {M : Type 1} → statement M
 and-spec =
     tie.close
-    (tie.spec
-    Inv-loop
-    μ-loop
-    loop-holds
-    (λ c. search needs)
-    (λ c. search needs)
-    (λ c. search needs)
-    (λ c. search needs)
-    (λ c. search needs)
-    loop-again
-    returns)
+    (tie.spec Inv-loop μ-loop loop-holds (λ c. search needs) (λ c. search needs) (λ c. search needs) (λ c. search needs) (λ c. search needs)
+    loop-again returns)

@@ -62,35 +62,7 @@ returns c = bit-word _ (search needs) (byte c)
 pub word-spec : {M : Type 1} → statement M
 word-spec =
     tie.close
-    (tie.spec
-    (λ c. search needs)
-    (λ c. search needs)
-    (λ c. search needs)
-    (λ c. search needs)
-    mul-result
-    add-result
-    (λ c. search needs)
-    (λ c. search needs)
-    mul-result-2
-    add-result-2
-    (λ c. search needs)
-    (λ c. search needs)
-    mul-result-3
-    add-result-3
-    (λ c. search needs)
-    (λ c. search needs)
-    mul-result-4
-    add-result-4
-    (λ c. search needs)
-    (λ c. search needs)
-    mul-result-5
-    add-result-5
-    (λ c. search needs)
-    (λ c. search needs)
-    mul-result-6
-    add-result-6
-    (λ c. search needs)
-    (λ c. search needs)
-    mul-result-7
-    add-result-7
-    returns)
+    (tie.spec (λ c. search needs) (λ c. search needs) (λ c. search needs) (λ c. search needs) mul-result add-result (λ c. search needs)
+    (λ c. search needs) mul-result-2 add-result-2 (λ c. search needs) (λ c. search needs) mul-result-3 add-result-3 (λ c. search needs)
+    (λ c. search needs) mul-result-4 add-result-4 (λ c. search needs) (λ c. search needs) mul-result-5 add-result-5 (λ c. search needs)
+    (λ c. search needs) mul-result-6 add-result-6 (λ c. search needs) (λ c. search needs) mul-result-7 add-result-7 returns)

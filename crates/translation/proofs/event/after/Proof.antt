@@ -42,13 +42,5 @@ returns-3 c =
 pub after-spec : {M : Type 1} → statement M
 after-spec =
     tie.close
-    (tie.spec
-    events-requires
-    (λ c κs. search needs)
-    event-byte-requires
-    returns
-    is-flagged-requires
-    (λ c κs. search needs)
-    returns-2
-    event-byte-requires-2
-    returns-3)
+    (tie.spec events-requires (λ c κs. search needs) event-byte-requires returns is-flagged-requires (λ c κs. search needs) returns-2
+    event-byte-requires-2 returns-3)

@@ -29,13 +29,4 @@ returns-2 c = passed-all _ _ _ (c .loop-test .left) (c .before .loop .inv .1)
 pub fenced-spec : {M : Type 1} → statement M
 fenced-spec =
     tie.close
-    (tie.spec
-    Inv-loop
-    μ-loop
-    loop-holds
-    is-fence-of-requires
-    returns
-    (λ c. search needs)
-    (λ c. search needs)
-    loop-again
-    returns-2)
+    (tie.spec Inv-loop μ-loop loop-holds is-fence-of-requires returns (λ c. search needs) (λ c. search needs) loop-again returns-2)

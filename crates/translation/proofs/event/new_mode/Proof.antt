@@ -47,13 +47,4 @@ returns-4 c =
     )
 
 pub new-mode-spec : {M : Type 1} → statement M
-new-mode-spec =
-    tie.close
-    (tie.spec
-    events-requires
-    returns
-    event-byte-requires
-    event-byte-requires-2
-    returns-2
-    returns-3
-    returns-4)
+new-mode-spec = tie.close (tie.spec events-requires returns event-byte-requires event-byte-requires-2 returns-2 returns-3 returns-4)

@@ -39,13 +39,4 @@ returns c = counted-all _ _ _ _ (omega arith) (c .before .loop .inv .2)
 pub strong-below-spec : {M : Type 1} → statement M
 strong-below-spec =
     tie.close
-    (tie.spec
-    Inv-loop
-    μ-loop
-    loop-holds
-    is-flagged-requires
-    add-n
-    (λ c. search needs)
-    (λ c. search needs)
-    loop-again
-    returns)
+    (tie.spec Inv-loop μ-loop loop-holds is-flagged-requires add-n (λ c. search needs) (λ c. search needs) loop-again returns)

@@ -45,13 +45,5 @@ returns-2 c =
 pub controlled-spec : {M : Type 1} → statement M
 controlled-spec =
     tie.close
-    (tie.spec
-    event-byte-requires
-    sources-of-requires
-    sources-of-requires-2
-    (λ c κs. search needs)
-    has-requires
-    after-requires
-    returns
-    after-requires-2
-    returns-2)
+    (tie.spec event-byte-requires sources-of-requires sources-of-requires-2 (λ c κs. search needs) has-requires after-requires returns
+    after-requires-2 returns-2)

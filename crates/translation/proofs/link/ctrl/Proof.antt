@@ -20,13 +20,5 @@ returns c =
 pub ctrl-spec : {M : Type 1} → statement M
 ctrl-spec =
     tie.close
-    (tie.spec
-    links-requires
-    links-requires-2
-    (λ c κs. search needs)
-    (λ c κs. search needs)
-    (λ c κs. search needs)
-    (λ c κs. search needs)
-    (λ c κs. search needs)
-    (λ c κs. search needs)
-    returns)
+    (tie.spec links-requires links-requires-2 (λ c κs. search needs) (λ c κs. search needs) (λ c κs. search needs) (λ c κs. search needs)
+    (λ c κs. search needs) (λ c κs. search needs) returns)

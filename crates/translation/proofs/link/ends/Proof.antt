@@ -37,16 +37,4 @@ returns : tie.Need-returns Inv-loop μ-loop
 returns c = ending-all _ _ _ _ _ (c .before .loop .inv .1) (omega arith)
 
 pub ends-spec : {M : Type 1} → statement M
-ends-spec =
-    tie.close
-    (tie.spec
-    Inv-loop
-    μ-loop
-    loop-holds
-    links-up-to-requires
-    cast-at
-    array-write-at
-    add-b
-    (λ c. search needs)
-    loop-again
-    returns)
+ends-spec = tie.close (tie.spec Inv-loop μ-loop loop-holds links-up-to-requires cast-at array-write-at add-b (λ c. search needs) loop-again returns)

@@ -32,16 +32,5 @@ returns c = links-all _ _ _ _ (c .before .loop .inv .1) (omega arith)
 pub links-up-to-spec : {M : Type 1} → statement M
 links-up-to-spec =
     tie.close
-    (tie.spec
-    Inv-loop
-    μ-loop
-    rows-requires
-    loop-holds
-    (λ c. search needs)
-    (λ c. search needs)
-    (λ c κs. search needs)
-    add-m
-    (λ c. search needs)
-    (λ c. search needs)
-    loop-again
-    returns)
+    (tie.spec Inv-loop μ-loop rows-requires loop-holds (λ c. search needs) (λ c. search needs) (λ c κs. search needs) add-m (λ c. search needs)
+    (λ c. search needs) loop-again returns)

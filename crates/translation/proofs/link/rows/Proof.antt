@@ -18,12 +18,5 @@ returns c = (let start = c .before .before .before .before .before in rows-into 
 pub rows-spec : {M : Type 1} → statement M
 rows-spec =
     tie.close
-    (tie.spec
-    sources-by-type-requires
-    (λ c κs. search needs)
-    (λ c. search needs)
-    row-of-requires
-    (λ c. search needs)
-    (λ c κs. search needs)
-    (λ c. search needs)
-    returns)
+    (tie.spec sources-by-type-requires (λ c κs. search needs) (λ c. search needs) row-of-requires (λ c. search needs) (λ c κs. search needs)
+    (λ c. search needs) returns)

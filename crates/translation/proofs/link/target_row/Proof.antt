@@ -51,18 +51,5 @@ returns-4 c =
 pub target-row-spec : {M : Type 1} → statement M
 target-row-spec =
     tie.close
-    (tie.spec
-    is-flagged-requires
-    (λ c κs. search needs)
-    returns
-    (λ c κs. search needs)
-    controlled-requires
-    (λ c κs. search needs)
-    returns-2
-    is-recorded-requires
-    (λ c κs. search needs)
-    returns-3
-    (λ c κs. search needs)
-    after-requires
-    (λ c κs. search needs)
-    returns-4)
+    (tie.spec is-flagged-requires (λ c κs. search needs) returns (λ c κs. search needs) controlled-requires (λ c κs. search needs) returns-2
+    is-recorded-requires (λ c κs. search needs) returns-3 (λ c κs. search needs) after-requires (λ c κs. search needs) returns-4)

@@ -33,12 +33,4 @@ returns c = (let pre = c .before .before .before .before .before .pre in header-
 pub header-spec : {M : Type 1} → statement M
 header-spec =
     tie.close
-    (tie.spec
-    cast-t4
-    shared-slice-read-t6
-    cast-t7
-    shared-slice-read-t9
-    shared-slice-read-t11
-    shared-slice-read-t13
-    shared-slice-read-t15
-    returns)
+    (tie.spec cast-t4 shared-slice-read-t6 cast-t7 shared-slice-read-t9 shared-slice-read-t11 shared-slice-read-t13 shared-slice-read-t15 returns)

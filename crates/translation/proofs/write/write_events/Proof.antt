@@ -61,19 +61,5 @@ returns c = written-all _ _ _ _ _ _ (c .before .loop .inv .1) (omega arith)
 pub write-events-spec : {M : Type 1} → statement M
 write-events-spec =
     tie.close
-    (tie.spec
-    Inv-loop
-    μ-loop
-    loop-holds
-    array-read-last
-    (λ c. search needs)
-    (λ c κs. search needs)
-    event-record-requires
-    mul-put
-    (λ c. search needs)
-    put-requires
-    add-e
-    (λ c. search needs)
-    loop-again
-    same-length
-    returns)
+    (tie.spec Inv-loop μ-loop loop-holds array-read-last (λ c. search needs) (λ c κs. search needs) event-record-requires mul-put (λ c. search needs)
+    put-requires add-e (λ c. search needs) loop-again same-length returns)

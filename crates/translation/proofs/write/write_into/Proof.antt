@@ -39,16 +39,5 @@ returns c = into-all _ _ _ _ _ _ _ _ (c .before .loop .inv .1) (omega arith)
 pub write-into-spec : {M : Type 1} → statement M
 write-into-spec =
     tie.close
-    (tie.spec
-    Inv-loop
-    μ-loop
-    rows-requires
-    loop-holds
-    (λ c. search needs)
-    (λ c. search needs)
-    write-row-requires
-    (λ c. search needs)
-    (λ c. search needs)
-    loop-again
-    same-length
-    returns)
+    (tie.spec Inv-loop μ-loop rows-requires loop-holds (λ c. search needs) (λ c. search needs) write-row-requires (λ c. search needs)
+    (λ c. search needs) loop-again same-length returns)

@@ -48,15 +48,5 @@ returns c = links-done _ _ _ _ _ _ (c .before .loop .inv .1) (omega arith)
 pub write-links-spec : {M : Type 1} → statement M
 write-links-spec =
     tie.close
-    (tie.spec
-    Inv-loop
-    μ-loop
-    loop-holds
-    array-read-write-into
-    (λ c. search needs)
-    write-into-requires
-    add-b
-    (λ c. search needs)
-    loop-again
-    same-length
-    returns)
+    (tie.spec Inv-loop μ-loop loop-holds array-read-write-into (λ c. search needs) write-into-requires add-b (λ c. search needs) loop-again
+    same-length returns)

@@ -62,23 +62,5 @@ returns c = (let w = c .before .loop .inv in row-all _ _ _ _ _ _ _ _ (w .written
 pub write-row-spec : {M : Type 1} → statement M
 write-row-spec =
     tie.close
-    (tie.spec
-    Inv-loop
-    μ-loop
-    (λ c κs. search needs)
-    loop-holds
-    add-chained
-    (λ c κs. search needs)
-    cast-t12
-    cast-t13
-    cast-t14
-    mul-put
-    slice-aggregate-put
-    put-requires
-    add-m
-    add-next
-    next-requires
-    loop-less
-    loop-again
-    same-length
-    returns)
+    (tie.spec Inv-loop μ-loop (λ c κs. search needs) loop-holds add-chained (λ c κs. search needs) cast-t12 cast-t13 cast-t14 mul-put
+    slice-aggregate-put put-requires add-m add-next next-requires loop-less loop-again same-length returns)

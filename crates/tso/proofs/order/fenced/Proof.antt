@@ -16,11 +16,4 @@ returns c =
     record { clauses = λ k. into k ∷ out k ∷ [] }
 
 pub fenced-spec : {M : Type 1} → statement M
-fenced-spec =
-    tie.close
-    (tie.spec
-    (λ c κs. search needs)
-    (λ c κs. search needs)
-    (λ c κs. search needs)
-    (λ c κs. search needs)
-    returns)
+fenced-spec = tie.close (tie.spec (λ c κs. search needs) (λ c κs. search needs) (λ c κs. search needs) (λ c κs. search needs) returns)

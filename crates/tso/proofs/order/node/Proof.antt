@@ -13,9 +13,4 @@ returns c =
     λ B r w s. holds B node (is-join _ _ _ (is-join _ _ _ (is-set r refl) (is-set w refl) (c .before .or .ensures)) (is-set s refl) (c .or2 .ensures))
 
 pub node-spec : {M : Type 1} → statement M
-node-spec =
-    tie.close
-    (tie.spec
-    (λ c κs. search needs)
-    (λ c κs. search needs)
-    returns)
+node-spec = tie.close (tie.spec (λ c κs. search needs) (λ c κs. search needs) returns)

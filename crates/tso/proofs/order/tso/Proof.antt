@@ -15,9 +15,4 @@ returns c =
     held-union 14 tsoClauses B _ (c .before .clauses .ensures e) tso (tso-opened nodes B) _ (c .union .ensures)
 
 pub tso-spec : {M : Type 1} → statement M
-tso-spec =
-    tie.close
-    (tie.spec
-    (λ c κs. search needs)
-    (λ c κs. search needs)
-    returns)
+tso-spec = tie.close (tie.spec (λ c κs. search needs) (λ c κs. search needs) returns)

@@ -73,31 +73,7 @@ returns-2 c =
 pub unordered-spec : {M : Type 1} → statement M
 unordered-spec =
     tie.close
-    (tie.spec
-    Inv-loop
-    μ-loop
-    Inv-pairs
-    μ-pairs
-    (λ c κs. search needs)
-    (λ c κs. search needs)
-    (λ c κs. search needs)
-    (λ c κs. search needs)
-    pairs-holds
-    (λ c. search needs)
-    (λ c. search needs)
-    (λ c κs. search needs)
-    (λ c. search needs)
-    (λ c. search needs)
-    (λ c κs. search needs)
-    loop-holds
-    (λ c κs. search needs)
-    (λ c. search needs)
-    (λ c κs. search needs)
-    loop-less
-    loop-again
-    (λ c. search needs)
-    (λ c κs. search needs)
-    pairs-less
-    pairs-again
-    returns
-    returns-2)
+    (tie.spec Inv-loop μ-loop Inv-pairs μ-pairs (λ c κs. search needs) (λ c κs. search needs) (λ c κs. search needs) (λ c κs. search needs)
+    pairs-holds (λ c. search needs) (λ c. search needs) (λ c κs. search needs) (λ c. search needs) (λ c. search needs) (λ c κs. search needs)
+    loop-holds (λ c κs. search needs) (λ c. search needs) (λ c κs. search needs) loop-less loop-again (λ c. search needs) (λ c κs. search needs)
+    pairs-less pairs-again returns returns-2)

@@ -20,12 +20,4 @@ returns-2 c =
     tried-none M B s e _ 4 (c .unbroken .ensures) (hold-4 M B hold (pair-none _ _ _ first (c .before .if1 .left)))
 
 pub atomicity-spec : {M : Type 1} → statement M
-atomicity-spec =
-    tie.close
-    (tie.spec
-    (λ c κs. search needs)
-    (λ c κs. search needs)
-    broken-pair-requires
-    returns
-    (λ c κs. search needs)
-    returns-2)
+atomicity-spec = tie.close (tie.spec (λ c κs. search needs) (λ c κs. search needs) broken-pair-requires returns (λ c κs. search needs) returns-2)
