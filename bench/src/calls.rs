@@ -6,6 +6,7 @@ use crate::{library, plain};
 /// A call on a file and an output, which `load` leaves alone.
 pub type Function = fn(&[u8], &mut [u8]) -> u64;
 
+#[derive(Clone, Copy)]
 pub struct Call {
     pub name: &'static str,
     pub library: Function,

@@ -1,18 +1,8 @@
 //! The probe's library, its calls taken with slices.
 
-extern "C" {
-    fn probe_load(file: *const u8, length: usize) -> u64;
-    fn probe_imm(file: *const u8, length: usize, out: *mut u8, room: usize) -> u64;
-    fn probe_armv8(file: *const u8, length: usize, out: *mut u8, room: usize) -> u64;
-    fn probe_tso(file: *const u8, length: usize, out: *mut u8, room: usize) -> u64;
-    fn probe_translate(file: *const u8, length: usize, out: *mut u8, room: usize) -> u64;
-    fn probe_judge(file: *const u8, length: usize, out: *mut u8, room: usize) -> u64;
-    fn probe_page(file: *const u8, length: usize, ring: *const u8, count: usize, out: *mut u8, room: usize) -> u64;
-}
+use crate::probe::*;
 
-pub type Writes = unsafe extern "C" fn(*const u8, usize, *mut u8, usize) -> u64;
-
-pub fn with_output(call: Writes, file: &[u8], out: &mut [u8]) -> u64 {
+pub fn with_output(call: OfFile, file: &[u8], out: &mut [u8]) -> u64 {
     // SAFETY: the pointers and lengths are those of two slices, of which the second is lent for writing and so lies apart.
     unsafe { call(file.as_ptr(), file.len(), out.as_mut_ptr(), out.len()) }
 }

@@ -4,18 +4,17 @@
 mod answer;
 mod calls;
 mod check;
-#[path = "../../tests/shared/hex.rs"]
-mod hex;
 mod inputs;
 #[cfg(feature = "joins")]
 mod joins;
 mod library;
 mod measure;
 mod plain;
-#[path = "../../tests/shared/random.rs"]
-mod random;
+#[path = "../../tests/shared/probe.rs"]
+mod probe;
 mod table;
 
+use oracle::hex;
 use std::io::{self, BufRead, BufWriter, Write};
 use std::process::exit;
 

@@ -1,10 +1,11 @@
-/* Calls every function of the library from C, on recordings written out by hand, and compares answers and outputs.
+/* Calls every function of the library from C, on recordings written out by hand and stored ones, and compares answers and outputs.
  * File, ring and output each lie against a forbidden page, once at their end and once at their start, between guard bytes (lend.h);
  * every output is lent longer than it need be, as long, a byte shorter, and empty. */
 #include "lend.h"
 #include "probe.h"
 
 #include <stdio.h>
+#include <stdlib.h>
 #include <string.h>
 
 typedef probe_answer (*call)(const uint8_t *, size_t, uint8_t *, size_t);
@@ -237,44 +238,54 @@ static void stars(const char *name, const uint8_t *file, size_t length)
     expect(answer == coded(0, 0, size) && memcmp(got, wanted, size) == 0, name, "other stars for the file as a ring");
 }
 
-/* A verdict: the broken rule or 0, the events shown, and its line. */
+/* The verdict that a line of the judge's says: the broken rule or 0, and the events shown. */
 struct verdict {
     unsigned rule;
     size_t shown;
-    const uint8_t *events;
-    const char *line;
+    uint8_t events[PROBE_MOST_EVENTS];
 };
 
-static void judged(call function, const char *name, const uint8_t *file, size_t length, const struct verdict *v)
+static struct verdict said(const char *line)
 {
-    at_each_room(function, name, file, length, coded(0, v->rule, v->shown), v->events);
+    struct verdict v = {0, 0, {0}};
+    char *at = strchr(line, ' ') + 1;
+    if (strncmp(at, "broken", strlen("broken")) == 0)
+        v.rule = (unsigned)strtoul(at + strlen("broken"), &at, 10);
+    else
+        at += strlen("allowed");
+    while (*at == ' ' && v.shown < sizeof v.events)
+        v.events[v.shown++] = (uint8_t)strtoul(at, &at, 10);
+    return v;
 }
 
-/* What probe_why has to write of a file that breaks rule 3 or 5 of a model: its steps, three bytes each. */
+static void judged(call function, const char *name, const uint8_t *file, size_t length, const char *line)
+{
+    struct verdict v = said(line);
+    at_each_room(function, name, file, length, coded(0, v.rule, v.shown), v.events);
+}
+
+/* What probe_why has to write where a line says that rule 3 or 5 is broken: the steps of the ring, three bytes each. */
 struct steps {
-    const uint8_t *file;
-    uint64_t model;
     size_t length;
     const uint8_t *bytes;
 };
 
-static const struct steps *find_steps(const uint8_t *file, uint64_t number);
-
-/* probe_why by a model whose verdict this is. */
-static void explained(const char *name, const uint8_t *file, size_t length, uint64_t number, const struct verdict *v)
+/* probe_why by a model whose verdict the line says. */
+static void explained(const char *name, const uint8_t *file, size_t length, uint64_t number, const char *line, const struct steps *s)
 {
-    const struct steps *s = find_steps(file, number);
-    expect((s != NULL) == (v->rule == 3 || v->rule == 5), name, "steps are not written down for each ring, or for what is none");
+    unsigned rule = said(line).rule;
+    expect((s->length > 0) == (rule == 3 || rule == 5), name, "steps are not written down for each ring, or for what is none");
     model = number;
-    at_each_room(why, name, file, length, coded(0, v->rule, s ? s->length : 0), s ? s->bytes : NULL);
+    at_each_room(why, name, file, length, coded(0, rule, s->length), s->bytes);
 }
 
-/* A chip file with its ARMv8 verdict. */
+/* A chip file with what the judge prints of it, and the steps of its ring. */
 struct chip {
     const char *name;
     const uint8_t *file;
     size_t length;
-    struct verdict armv8;
+    const char *line;
+    struct steps armv8;
 };
 
 static void chip(const struct chip *c)
@@ -283,54 +294,60 @@ static void chip(const struct chip *c)
     refused(probe_imm, c->name, c->file, c->length, PROBE_OTHER_KIND);
     refused(probe_tso, c->name, c->file, c->length, PROBE_OTHER_KIND);
     refused(probe_translate, c->name, c->file, c->length, PROBE_OTHER_KIND);
-    judged(probe_armv8, c->name, c->file, c->length, &c->armv8);
-    explained(c->name, c->file, c->length, PROBE_ARMV8, &c->armv8);
+    judged(probe_armv8, c->name, c->file, c->length, c->line);
+    explained(c->name, c->file, c->length, PROBE_ARMV8, c->line, &c->armv8);
     why_refused(c->name, c->file, c->length, PROBE_IMM, PROBE_OTHER_KIND);
     why_refused(c->name, c->file, c->length, PROBE_TSO, PROBE_OTHER_KIND);
     why_refused_by_no_models(c->name, c->file, c->length, PROBE_OTHER_KIND);
-    prints(c->name, c->file, c->length, c->armv8.line);
+    prints(c->name, c->file, c->length, c->line);
     stars(c->name, c->file, c->length);
 }
 
-/* A source file with its IMM verdict, its translation, the ARMv8 verdict on that, and its own x86-TSO verdict. */
+/* A source file with what the judge prints of it, its translation, and the steps of its rings, that of the translation among them. A
+ * translation that differs in its kind alone is left out. */
 struct source {
     const char *name;
     const uint8_t *file;
     size_t length;
-    struct verdict imm;
+    const char *lines;
     const uint8_t *chip;
     size_t chip_length;
-    struct verdict armv8;
-    struct verdict tso;
+    struct steps imm, armv8, tso;
 };
+
+static const char *next_line(const char *line)
+{
+    return strchr(line, '\n') + 1;
+}
 
 static void source(const struct source *s)
 {
-    char lines[PROBE_MOST_LINES + 1];
-    snprintf(lines, sizeof lines, "%s%s%s", s->imm.line, s->armv8.line, s->tso.line);
+    const char *imm = s->lines, *armv8 = next_line(imm), *tso = next_line(armv8);
+    char chip_line[PROBE_MOST_LINES + 1];
+    uint8_t other_kind[PROBE_MOST_TRANSLATION];
+    struct chip c = {s->name, s->chip, s->chip_length, chip_line, s->armv8};
+    snprintf(chip_line, sizeof chip_line, "%.*s", (int)(tso - armv8), armv8);
+    if (s->chip == NULL) {
+        memcpy(other_kind, s->file, s->length);
+        other_kind[0] = 2;
+        c.file = other_kind;
+        c.length = s->length;
+    }
     loads(s->name, s->file, s->length, 0);
-    judged(probe_imm, s->name, s->file, s->length, &s->imm);
-    judged(probe_tso, s->name, s->file, s->length, &s->tso);
+    judged(probe_imm, s->name, s->file, s->length, imm);
+    judged(probe_tso, s->name, s->file, s->length, tso);
     refused(probe_armv8, s->name, s->file, s->length, PROBE_OTHER_KIND);
-    explained(s->name, s->file, s->length, PROBE_IMM, &s->imm);
-    explained(s->name, s->file, s->length, PROBE_TSO, &s->tso);
+    explained(s->name, s->file, s->length, PROBE_IMM, imm, &s->imm);
+    explained(s->name, s->file, s->length, PROBE_TSO, tso, &s->tso);
     why_refused(s->name, s->file, s->length, PROBE_ARMV8, PROBE_OTHER_KIND);
     why_refused_by_no_models(s->name, s->file, s->length, PROBE_OTHER_KIND);
-    at_each_room(probe_translate, s->name, s->file, s->length, coded(0, 0, s->chip_length), s->chip);
-    prints(s->name, s->file, s->length, lines);
+    at_each_room(probe_translate, s->name, s->file, s->length, coded(0, 0, c.length), c.file);
+    prints(s->name, s->file, s->length, s->lines);
     stars(s->name, s->file, s->length);
-    chip(&(struct chip){s->name, s->chip, s->chip_length, s->armv8});
+    chip(&c);
 }
 
 #include "recordings.h"
-
-static const struct steps *find_steps(const uint8_t *file, uint64_t number)
-{
-    for (size_t i = 0; i < sizeof steps / sizeof steps[0]; i++)
-        if (steps[i].file == file && steps[i].model == number)
-            return &steps[i];
-    return NULL;
-}
 
 int main(void)
 {

@@ -1,4 +1,4 @@
-//! Files, and rings behind them, as lines of hexadecimal digits. A module of the oracle, the batch driver and the benchmark.
+//! Files, and rings behind them, as lines of hexadecimal digits. A module of the oracle, whose library the benchmark uses, and of the batch driver.
 
 pub fn to_hex(file: &[u8]) -> String {
     file.iter().map(|b| format!("{b:02x}")).collect()

@@ -1,8 +1,6 @@
 //! Calls that fill an output, which is lent between guard bytes. What they read is lent as a copy.
 
-pub type OfFile = unsafe extern "C" fn(*const u8, usize, *mut u8, usize) -> u64;
-pub type OfRing = unsafe extern "C" fn(*const u8, usize, *const u8, usize, *mut u8, usize) -> u64;
-pub type OfModel = unsafe extern "C" fn(*const u8, usize, u64, *mut u8, usize) -> u64;
+use crate::probe::{OfFile, OfModel, OfRing};
 
 const GUARD: usize = 64;
 pub const MOST: usize = 1500;

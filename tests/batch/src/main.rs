@@ -16,24 +16,20 @@
 #[path = "../../shared/hex.rs"]
 mod hex;
 mod lent;
+#[path = "../../shared/probe.rs"]
+mod probe;
 mod verdicts;
 mod why;
 
 use hex::{from_hex, to_hex, with_ring};
 use lent::{at_each_room, lent, Answer, Call, MOST};
+use probe::{probe_judge, probe_load, probe_page, probe_translate};
 use std::io::{self, BufRead, BufWriter, Write};
 use std::process::exit;
 
 const USAGE: &str = "usage: batch load | translate | translate-rooms | judge | judge-rooms | verdicts | verdicts-rooms | own-ring < FILES
        batch why | why-rooms | why-models < FILES
        batch page | page-rooms < FILES_AND_RINGS";
-
-extern "C" {
-    fn probe_load(file: *const u8, len: usize) -> u64;
-    fn probe_translate(file: *const u8, len: usize, out: *mut u8, room: usize) -> u64;
-    fn probe_judge(file: *const u8, len: usize, out: *mut u8, room: usize) -> u64;
-    fn probe_page(file: *const u8, len: usize, ring: *const u8, count: usize, out: *mut u8, room: usize) -> u64;
-}
 
 fn load(file: &[u8]) -> String {
     // SAFETY: the pointer and the length are those of a slice, and the call only reads it.

@@ -1,19 +1,13 @@
 //! The judge's lines and the ring of a file, made of what the calls for the verdicts answer.
 
 use crate::lent::{lent, Answer, Call, MOST};
-use crate::probe_translate;
+use crate::probe::{probe_armv8, probe_imm, probe_translate, probe_tso};
 
 /// The most bytes that a verdict writes.
 pub const ROOM: usize = 64;
 
 /// The answer of a call whose output is lent with so much room, or in some other way.
 pub type Lending = fn(Call, usize) -> Answer;
-
-extern "C" {
-    pub fn probe_imm(file: *const u8, len: usize, out: *mut u8, room: usize) -> u64;
-    pub fn probe_armv8(file: *const u8, len: usize, out: *mut u8, room: usize) -> u64;
-    pub fn probe_tso(file: *const u8, len: usize, out: *mut u8, room: usize) -> u64;
-}
 
 /// The line of a rule and the events that are shown, without its line feed.
 pub fn line_of(model: &str, rule: u64, events: &[u8]) -> String {

@@ -1,16 +1,12 @@
 //! What the program why prints of a file, made of what the call for the steps of a ring answers for each model; and that the call answers
 //! for no model but those of the file's kind. `/` stands for a line feed, as names of clauses have `;`.
 
-use crate::lent::{at_each_room, Answer, Call, OfFile, MOST};
-use crate::verdicts::{line_of, probe_armv8, probe_imm, probe_tso, Lending, ROOM};
-use crate::{probe_load, probe_translate};
+use crate::lent::{at_each_room, Answer, Call, MOST};
+use crate::probe::{probe_armv8, probe_imm, probe_load, probe_translate, probe_tso, probe_why, OfFile};
+use crate::verdicts::{line_of, Lending, ROOM};
 
 /// The bytes of a step: an event, the next one, and the number of a clause.
 const STEP: usize = 3;
-
-extern "C" {
-    fn probe_why(file: *const u8, len: usize, model: u64, out: *mut u8, room: usize) -> u64;
-}
 
 struct Model {
     number: u64,

@@ -1,7 +1,9 @@
 //! Files for comparison: recordings that load, translations of such, ones with a thread too long, and damaged ones.
+//! And files of full size for the benchmark, whole or damaged.
 
 use crate::draft::Draft;
-use crate::generate::{any_kind, draft, draft_of_kind, too_long};
+use crate::generate::{any_kind, draft, draft_of_kind, full, most_events, too_long};
+use crate::generate_links::fill;
 use crate::random::Random;
 use crate::recording::*;
 use crate::translation::translate;
@@ -29,6 +31,25 @@ pub fn any_file(random: &mut Random) -> Vec<u8> {
         }
         _ => random_bytes(random),
     }
+}
+
+/// A recording with as many events and links as its kind may have.
+pub fn full_file(random: &mut Random, kind: u8) -> Vec<u8> {
+    let mut draft = full(random, kind, most_in_thread(kind));
+    fill(random, &mut draft);
+    draft.to_bytes(random)
+}
+
+/// The same damaged: a thread too long, something broken that needs more than one byte, or bytes or the length changed.
+pub fn damaged_full_file(random: &mut Random, kind: u8) -> Vec<u8> {
+    let damage = random.below(10);
+    let mut draft = full(random, kind, if damage == 0 { most_events(kind) } else { most_in_thread(kind) });
+    if damage <= 4 {
+        damage_draft(random, &mut draft);
+    }
+    fill(random, &mut draft);
+    let file = draft.to_bytes(random);
+    if damage <= 4 { file } else { damage_bytes(random, file) }
 }
 
 fn long_draft(random: &mut Random) -> Draft {

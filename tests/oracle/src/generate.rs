@@ -1,5 +1,5 @@
 //! Random recordings that load: small dense ones mostly, some up to the limits of N, M and a thread.
-//! And recordings with a thread over its limit.
+//! Recordings with a thread over its limit. And recordings of full size.
 
 use crate::draft::{Draft, DraftEvent};
 use crate::generate_buffers::buffer_shaped;
@@ -95,7 +95,19 @@ pub fn too_long(random: &mut Random, kind: u8) -> Draft {
     }
 }
 
-fn most_events(kind: u8) -> usize {
+/// A recording with as many events as its kind may have, and at most so many in a thread. `fill` gives it as many links.
+pub fn full(random: &mut Random, kind: u8, thread: usize) -> Draft {
+    let theme = &THEMES[random.below(THEMES.len())];
+    let size = Size { events: most_events(kind), locations: random.between(2, 8), thread };
+    let draft = skeleton(random, kind, theme, size);
+    let policy = random.pick(&[Policy::Sequential, Policy::NearlySequential, Policy::NearlySequential, Policy::Anyhow]);
+    let mut draft = linked(random, draft, theme, policy);
+    let more = random.pick(&[10, 50, 200]);
+    dependencies(random, &mut draft, more);
+    draft
+}
+
+pub fn most_events(kind: u8) -> usize {
     if kind == SOURCE { 32 } else { 48 }
 }
 
@@ -115,7 +127,7 @@ fn size_that_loads(random: &mut Random, kind: u8) -> Size {
 /// Threads drawn at random, then rf and co by a policy.
 fn interleaved(random: &mut Random, kind: u8, theme: &Theme, size: Size) -> Draft {
     let events = size.events;
-    let mut draft = skeleton(random, kind, theme, size);
+    let draft = skeleton(random, kind, theme, size);
     let policy = match random.below(100) {
         0..=7 => Policy::Sequential,
         8..=19 => Policy::NearlySequential,
@@ -124,6 +136,11 @@ fn interleaved(random: &mut Random, kind: u8, theme: &Theme, size: Size) -> Draf
         85..=92 => Policy::PerLocation,
         _ => Policy::NearlySequential,
     };
+    linked(random, draft, theme, policy)
+}
+
+/// The draft with values, rf and co by a policy, and dependencies.
+fn linked(random: &mut Random, mut draft: Draft, theme: &Theme, policy: Policy) -> Draft {
     let atomic = random.chance(35);
     values(random, &mut draft);
     let threads = draft.threads.to_vec();

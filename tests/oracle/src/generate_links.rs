@@ -102,7 +102,17 @@ pub fn repeats(random: &mut Random, draft: &mut Draft) {
         4..=20 => random.between(1, 6),
         _ => 0,
     };
-    for _ in 0..wanted {
+    repeat(random, draft, wanted);
+}
+
+/// Repeats links up to the limit of M.
+pub fn fill(random: &mut Random, draft: &mut Draft) {
+    repeat(random, draft, draft.most_links());
+}
+
+/// Repeats so many links, up to the limit of M. Assumes that there is one.
+fn repeat(random: &mut Random, draft: &mut Draft, times: usize) {
+    for _ in 0..times {
         let again = random.pick(&draft.links);
         draft.add_link(again.0, again.1, again.2);
     }

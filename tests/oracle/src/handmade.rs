@@ -1,11 +1,12 @@
 //! Helpers for files made by hand: texts of hexadecimal digits, records put together, single bytes set.
 
 use crate::hex::from_hex;
+use crate::samples::sample_named;
 
-/// The bytes of a text of hexadecimal digits; blanks and the bars between records are left out.
+/// The bytes of a sample by its name, or of a text of hexadecimal digits; blanks and the bars between records are left out.
 pub fn bytes(text: &str) -> Vec<u8> {
     let digits: String = text.chars().filter(|c| !c.is_whitespace() && *c != '|').collect();
-    from_hex(&digits).expect("a text of hexadecimal digits")
+    sample_named(text).or_else(|| from_hex(&digits)).expect("a sample or a text of hexadecimal digits")
 }
 
 /// An event record but for its first link: next, class, mode, flag, location, value low, value high.

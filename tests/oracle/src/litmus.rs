@@ -1,10 +1,11 @@
-//! The twelve rows of 01's litmus table, written by hand, each with its verdicts, those by x86-TSO added (02, slip 6), and a legal answer.
-//!
-//! Locations: x is 0, y is 1, z is 2. A bar parts the header, the event records and the link records.
+//! The twelve rows of 01's litmus table: samples, each with its events, its verdicts, those by x86-TSO added (02, slip 6), and a legal answer,
+//! all by hand. Locations: x is 0, y is 1, z is 2.
+
+use crate::samples::sample;
 
 pub struct Row {
     pub name: &'static str,
-    pub file: &'static str,
+    pub file: &'static [u8],
     /// Source and chip verdict as in 01, then tso's: a is allowed, a digit the broken rule.
     pub verdicts: [&'static str; 3],
     /// An answer derived by hand; where it shows a ring, a shortest one.
@@ -14,7 +15,7 @@ pub struct Row {
 pub const ROWS: [Row; 12] = [
     Row {
         name: "empty file of 8 bytes",
-        file: "01 00 00 00 00 00 00 00",
+        file: sample!("empty_recording"),
         verdicts: ["a", "a", "a"],
         answer: "source allowed;chip allowed;tso allowed;",
     },
@@ -22,10 +23,7 @@ pub const ROWS: [Row; 12] = [
     // tso: 1 to 2 is W-W, 2 to 3 rfe, 3 to 4 R-R, 4 to 1 fr.
     Row {
         name: "message passing relaxed",
-        file: "01 04 02 02 01 03 00 00
-             | 02 02 00 00 00 01 00 00 | 00 02 00 00 01 01 00 00
-             | 04 01 00 00 01 01 00 01 | 00 01 00 00 00 00 00 02
-             | 00 01 02 00 | 00 01 38 00",
+        file: sample!("message_passing_relaxed"),
         verdicts: ["a", "a", "5"],
         answer: "source allowed 1 2 3 4 56 57;chip allowed 2 3 4 1 56 57;tso broken 5 1 2 3 4;",
     },
@@ -33,10 +31,7 @@ pub const ROWS: [Row; 12] = [
     // tso: as relaxed.
     Row {
         name: "release and acquire with stale read",
-        file: "01 04 02 02 01 03 00 00
-             | 02 02 00 00 00 01 00 00 | 00 02 02 00 01 01 00 00
-             | 04 01 01 00 01 01 00 01 | 00 01 00 00 00 00 00 02
-             | 00 01 02 00 | 00 01 38 00",
+        file: sample!("release_and_acquire_with_stale_read"),
         verdicts: ["3", "5", "5"],
         answer: "source broken 3 1 2 3 4;chip broken 5 1 2 3 4;tso broken 5 1 2 3 4;",
     },
@@ -44,10 +39,7 @@ pub const ROWS: [Row; 12] = [
     // tso: 1 to 2 and 3 to 4 are R-W, 2 to 3 and 4 to 1 rfe.
     Row {
         name: "load buffering",
-        file: "01 04 02 02 01 03 00 00
-             | 02 01 00 00 00 01 00 01 | 00 02 00 00 01 01 00 00
-             | 04 01 00 00 01 01 00 02 | 00 02 00 00 00 01 00 00
-             | 00 01 04 00 | 00 01 02 00",
+        file: sample!("load_buffering"),
         verdicts: ["a", "a", "5"],
         answer: "source allowed 2 3 4 1 56 57;chip allowed 2 3 4 1 56 57;tso broken 5 1 2 3 4;",
     },
@@ -55,10 +47,7 @@ pub const ROWS: [Row; 12] = [
     // tso: as without.
     Row {
         name: "load buffering with data links",
-        file: "01 04 02 04 01 03 00 00
-             | 02 01 00 00 00 01 00 01 | 00 02 00 00 01 01 00 02
-             | 04 01 00 00 01 01 00 03 | 00 02 00 00 00 01 00 04
-             | 00 01 04 00 | 00 04 01 00 | 00 01 02 00 | 00 04 03 00",
+        file: sample!("load_buffering_with_data_links"),
         verdicts: ["5", "5", "5"],
         answer: "source broken 5 1 2 3 4;chip broken 5 1 2 3 4;tso broken 5 1 2 3 4;",
     },
@@ -66,10 +55,7 @@ pub const ROWS: [Row; 12] = [
     // tso: fr leads from 2 to 3 and from 4 to 1, no step from a write to its thread's read. The initial writes come before 1 and 3.
     Row {
         name: "store buffering",
-        file: "01 04 02 02 01 03 00 00
-             | 02 02 00 00 00 01 00 00 | 00 01 00 00 01 00 00 01
-             | 04 02 00 00 01 01 00 00 | 00 01 00 00 00 00 00 02
-             | 00 01 39 00 | 00 01 38 00",
+        file: sample!("store_buffering"),
         verdicts: ["a", "a", "a"],
         answer: "source allowed 1 2 3 4 56 57;chip allowed 2 3 4 1 56 57;tso allowed 2 4 56 57 1 3;",
     },
@@ -77,10 +63,7 @@ pub const ROWS: [Row; 12] = [
     // tso: into and out of each fence, fr from 3 to 4 and from 6 to 1; 1 to 3 and 4 to 6 are no steps.
     Row {
         name: "store buffering with SC fences",
-        file: "01 06 02 02 01 04 00 00
-             | 02 02 00 00 00 01 00 00 | 03 03 04 00 00 00 00 00 | 00 01 00 00 01 00 00 01
-             | 05 02 00 00 01 01 00 00 | 06 03 04 00 00 00 00 00 | 00 01 00 00 00 00 00 02
-             | 00 01 39 00 | 00 01 38 00",
+        file: sample!("store_buffering_with_sc_fences"),
         verdicts: ["5", "5", "5"],
         answer: "source broken 5 2 5;chip broken 5 1 3 4 6;tso broken 5 1 2 3 4 5 6;",
     },
@@ -88,11 +71,7 @@ pub const ROWS: [Row; 12] = [
     // tso: rfe to 3 and 5, R-R in both threads, fr from 4 to 2 and from 6 to 1.
     Row {
         name: "independent reads with acquire",
-        file: "01 06 02 04 01 02 03 05
-             | 00 02 00 00 00 01 00 00 | 00 02 00 00 01 01 00 00
-             | 04 01 01 00 00 01 00 01 | 00 01 01 00 01 00 00 02
-             | 06 01 01 00 01 01 00 03 | 00 01 01 00 00 00 00 04
-             | 00 01 01 00 | 00 01 39 00 | 00 01 02 00 | 00 01 38 00",
+        file: sample!("independent_reads_with_acquire"),
         verdicts: ["a", "5", "5"],
         answer: "source allowed 1 2 3 4 5 6 56 57;chip broken 5 1 3 4 2 5 6;tso broken 5 1 3 4 2 5 6;",
     },
@@ -100,10 +79,7 @@ pub const ROWS: [Row; 12] = [
     // tso: fr from 3 to 2 and co from 2 to 4 are external.
     Row {
         name: "two pairs both reading the initial write",
-        file: "01 04 01 05 01 03 00 00
-             | 02 01 00 01 00 00 00 01 | 00 02 00 00 00 01 00 02
-             | 04 01 00 01 00 00 00 03 | 00 02 00 00 00 02 00 04
-             | 00 01 38 00 | 00 03 01 00 | 00 01 38 00 | 05 02 02 00 | 00 03 03 00",
+        file: sample!("two_pairs_both_reading_the_initial_write"),
         verdicts: ["4", "4", "4"],
         answer: "source broken 4 3 4;chip broken 4 3 4;tso broken 4 3 4;",
     },
@@ -111,10 +87,7 @@ pub const ROWS: [Row; 12] = [
     // tso: rf from 2 to 3, po to 4, fr to 2.
     Row {
         name: "newer value read before older",
-        file: "01 04 01 03 01 03 00 00
-             | 02 02 00 00 00 01 00 00 | 00 02 00 00 00 02 00 01
-             | 04 01 00 00 00 02 00 02 | 00 01 00 00 00 01 00 03
-             | 00 02 01 00 | 00 01 02 00 | 00 01 01 00",
+        file: sample!("newer_value_read_before_older"),
         verdicts: ["3", "3", "3"],
         answer: "source broken 3 3 4;chip broken 3 2 3 4;tso broken 3 2 3 4;",
     },
@@ -122,11 +95,7 @@ pub const ROWS: [Row; 12] = [
     // tso: 1 to 2 and 3 to 6 are R-W, 2 to 3 and 6 to 1 rfe.
     Row {
         name: "normal release pair before a write",
-        file: "01 06 03 05 01 03 00 00
-             | 02 01 00 00 01 01 00 01 | 00 02 00 00 02 01 00 02
-             | 04 01 00 00 02 01 00 03 | 05 01 00 01 00 00 00 04
-             | 06 02 02 00 00 01 00 05 | 00 02 00 00 01 01 00 00
-             | 00 01 06 00 | 00 04 01 00 | 00 01 02 00 | 00 01 38 00 | 00 03 04 00",
+        file: sample!("normal_release_pair_before_a_write"),
         verdicts: ["a", "a", "5"],
         answer: "source allowed 4 6 1 2 3 56 57 58 5;chip allowed 4 6 1 2 3 56 57 58 5;tso broken 5 1 2 3 6;",
     },
@@ -134,11 +103,7 @@ pub const ROWS: [Row; 12] = [
     // tso: as normal.
     Row {
         name: "strong release pair before a write",
-        file: "01 06 03 05 01 03 00 00
-             | 02 01 00 00 01 01 00 01 | 00 02 00 00 02 01 00 02
-             | 04 01 00 00 02 01 00 03 | 05 01 00 01 00 00 00 04
-             | 06 02 02 01 00 01 00 05 | 00 02 00 00 01 01 00 00
-             | 00 01 06 00 | 00 04 01 00 | 00 01 02 00 | 00 01 38 00 | 00 03 04 00",
+        file: sample!("strong_release_pair_before_a_write"),
         verdicts: ["5", "5", "5"],
         answer: "source broken 5 1 2 3 5 6;chip broken 5 1 2 3 6;tso broken 5 1 2 3 6;",
     },

@@ -11,33 +11,18 @@ mod boundary_threads;
 mod boundary_tso;
 mod boundary_why;
 mod clauses;
-mod damage;
 mod demand3;
-mod draft;
 mod execution;
-mod generate;
-mod generate_buffers;
-mod generate_circles;
-mod generate_links;
-mod generate_rings;
-mod generate_syncs;
 mod handmade;
-#[path = "../../shared/hex.rs"]
-mod hex;
 mod lent_rings;
-mod litmus;
 mod models;
 mod notation;
 mod page;
-#[path = "../../shared/random.rs"]
-mod random;
 mod reach;
 mod reach_isb;
 mod reach_pages;
 mod reach_rings;
 mod reach_tso;
-mod recording;
-mod relation;
 mod renumber;
 mod renumbered;
 mod rules;
@@ -45,10 +30,8 @@ mod selftest;
 mod selftest_numbering;
 mod selftest_rings;
 mod selftest_why;
-mod shaped;
 mod shown;
 mod sketch;
-mod translation;
 mod why;
 mod worked;
 mod worked_isb;
@@ -58,8 +41,9 @@ mod worked_rings;
 mod worked_tso;
 mod worked_why;
 
-use handmade::{bytes, outcome};
+use handmade::outcome;
 use hex::{from_hex, to_hex, with_ring};
+use oracle::{damage, draft, generate, hex, litmus, random, recording, relation, samples, translation};
 use std::io::{self, BufRead, BufWriter, Write};
 use std::process::exit;
 
@@ -106,10 +90,9 @@ fn main() {
         ["boundary"] => boundary::cases()
             .iter()
             .try_for_each(|c| writeln!(out, "{}\t{}\t{}", c.name, to_hex(&c.file), outcome(c.expected))),
-        ["litmus"] => litmus::ROWS.iter().try_for_each(|row| {
-            let file = bytes(row.file);
-            writeln!(out, "{}\t{}\t{}", row.name, to_hex(&file), shown::answer(&file))
-        }),
+        ["litmus"] => litmus::ROWS
+            .iter()
+            .try_for_each(|row| writeln!(out, "{}\t{}\t{}", row.name, to_hex(row.file), shown::answer(row.file))),
         ["demand3", seed, count] => {
             drop(out);
             exit(if demand3::run(number(seed), number(count) as usize) { 0 } else { 1 });

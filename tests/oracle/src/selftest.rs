@@ -56,11 +56,10 @@ pub fn run() -> bool {
         });
     }
     for row in &litmus::ROWS {
-        let file = bytes(row.file);
-        let got = answer(&file);
+        let got = answer(row.file);
         tally.test(row.name, litmus::verdicts_of(&got) == row.verdicts, || got.clone());
-        tally.test(row.name, fault(&file, row.answer).is_none(), || format!("{:?}", fault(&file, row.answer)));
-        tally.test(row.name, fault(&file, &got).is_none(), || format!("{:?}", fault(&file, &got)));
+        tally.test(row.name, fault(row.file, row.answer).is_none(), || format!("{:?}", fault(row.file, row.answer)));
+        tally.test(row.name, fault(row.file, &got).is_none(), || format!("{:?}", fault(row.file, &got)));
     }
     worked_answers(&mut tally);
     worked_tso_lines(&mut tally);
@@ -176,17 +175,7 @@ fn operators(tally: &mut Tally) {
     let few = [0u8, 1, 5, 48, 56, 63];
     for _ in 0..500 {
         let percent = random.between(5, 40);
-        let [r, s] = [0, 1].map(|_| {
-            let mut drawn = Relation::empty();
-            for a in few {
-                for b in few {
-                    if random.chance(percent) {
-                        drawn.add(a, b);
-                    }
-                }
-            }
-            drawn
-        });
+        let [r, s] = [0, 1].map(|_| selftest_rings::relation(&mut random, &few, percent));
         // The fewest steps of r, one or more, by the numbers reached by exactly 1, 2, .. of them; six numbers need no more than six.
         let fewest = |a: u8, b: u8| {
             let mut at = vec![a];

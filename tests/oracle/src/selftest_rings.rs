@@ -75,19 +75,24 @@ fn rotated(list: &[u8], by: usize) -> Vec<u8> {
     turned
 }
 
+/// A relation on a few numbers, so many percent of its pairs.
+pub fn relation(random: &mut Random, few: &[u8], percent: usize) -> Relation {
+    let mut drawn = Relation::empty();
+    for &a in few {
+        for &b in few {
+            if random.chance(percent) {
+                drawn.add(a, b);
+            }
+        }
+    }
+    drawn
+}
+
 /// Steps and closing steps: few, and mostly a ring among them whose last step may be a closing one.
 fn draw(random: &mut Random) -> (Relation, Relation) {
     let mut drawn = [0, 1].map(|_| {
         let percent = random.pick(&[0, 5, 10, 20]);
-        let mut drawn = Relation::empty();
-        for a in FEW {
-            for b in FEW {
-                if random.chance(percent) {
-                    drawn.add(a, b);
-                }
-            }
-        }
-        drawn
+        relation(random, &FEW, percent)
     });
     let mut planted = FEW;
     random.shuffle(&mut planted);

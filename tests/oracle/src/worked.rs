@@ -5,7 +5,7 @@ pub const ANSWERS: [(&str, &str, &str); 11] = [
     (
         // tso: from 1 to 2 leads po from a write to a read, and rf within po.
         "the example of 01",
-        "01 02 01 01 01 00 00 00 | 02 02 00 00 00 01 00 00 | 00 01 00 00 00 01 00 01 | 00 01 01 00",
+        EXAMPLE,
         "source allowed 1 2 56;chip allowed 1 2 56;tso allowed 2 56 1;",
     ),
     ("two locations and no event", "01 00 02 00 00 00 00 00", "source allowed 56 57;chip allowed 56 57;tso allowed 56 57;"),
@@ -13,7 +13,7 @@ pub const ANSWERS: [(&str, &str, &str); 11] = [
     (
         // ar and tso go from the initial write into the fence, ob only past it.
         "one SC fence and one location",
-        "01 01 01 00 01 00 00 00 | 00 03 04 00 00 00 00 00",
+        ONE_SC_FENCE,
         "source allowed 56 1;chip allowed 1 56;tso allowed 56 1;",
     ),
     (
@@ -75,12 +75,10 @@ pub const TRANSLATION_TO: &str = "02 07 02 08 03 05 00 00
 
 pub const ONE_EVENT: &str = "01 03 01 01 01 00 00 00 | 02 01 00 00 00 01 00 01 | 03 03 03 00 00 00 00 00
     | 00 02 00 00 00 01 00 00 | 00 01 03 00";
-pub const STALE: &str = "01 04 02 02 01 03 00 00 | 02 02 00 00 00 01 00 00 | 00 02 02 00 01 01 00 00
-    | 04 01 01 00 01 01 00 01 | 00 01 00 00 00 00 00 02 | 00 01 02 00 | 00 01 38 00";
-pub const NEWER_FIRST: &str = "01 04 01 03 01 03 00 00 | 02 02 00 00 00 01 00 00 | 00 02 00 00 00 02 00 01
-    | 04 01 00 00 00 02 00 02 | 00 01 00 00 00 01 00 03 | 00 02 01 00 | 00 01 02 00 | 00 01 01 00";
-pub const EXAMPLE: &str =
-    "01 02 01 01 01 00 00 00 | 02 02 00 00 00 01 00 00 | 00 01 00 00 00 01 00 01 | 00 01 01 00";
+pub const STALE: &str = "release_and_acquire_with_stale_read";
+pub const NEWER_FIRST: &str = "newer_value_read_before_older";
+/// 1 W x 1; 2 R x 1.
+pub const EXAMPLE: &str = "worked_example";
 const ONE_SC_FENCE: &str = "01 01 01 00 01 00 00 00 | 00 03 04 00 00 00 00 00";
 
 /// Wrong answers, each with what is wrong in it.

@@ -1,10 +1,7 @@
 //! Worked examples of isb (02, slip 3), derived by hand: exact answers, and answers that must be rejected.
 
-pub const CTRL_ISB: &str = "02 06 02 03 01 04 00 00 | 02 02 00 00 00 01 00 00 | 03 03 06 00 00 00 00 00 | 00 02 00 00 01 01 00 00
-    | 05 01 00 00 01 01 00 01 | 06 03 07 00 00 00 00 02 | 00 01 00 00 00 00 00 03 | 00 01 03 00 | 00 06 04 00
-    | 00 01 38 00";
-const ISB_ALONE: &str = "02 06 02 02 01 04 00 00 | 02 02 00 00 00 01 00 00 | 03 03 06 00 00 00 00 00 | 00 02 00 00 01 01 00 00
-    | 05 01 00 00 01 01 00 01 | 06 03 07 00 00 00 00 00 | 00 01 00 00 00 00 00 02 | 00 01 03 00 | 00 01 38 00";
+pub const CTRL_ISB: &str = "message_passing_with_dmb_sy_ctrl_link_and_isb";
+const ISB_ALONE: &str = "message_passing_with_dmb_sy_and_isb";
 const ISB_FIRST: &str = "02 07 03 04 01 04 00 00 | 02 02 00 00 00 01 00 00 | 03 03 06 00 00 00 00 00 | 00 02 00 00 01 01 00 00
     | 05 01 00 00 01 01 00 01 | 06 03 07 00 00 00 00 00 | 07 01 00 00 02 00 00 02 | 00 01 00 00 00 00 00 04
     | 00 01 03 00 | 03 01 3a 00 | 00 05 04 00 | 00 01 38 00";
@@ -36,8 +33,7 @@ pub const ANSWERS: [(&str, &str, &str); 29] = [
     (
         // .. || 4 R y 1; 5 R x 0, ctrl from 4: nothing from 4 to 5. dmb sy leads from the initial writes to 3 too.
         "ctrl and no isb",
-        "02 05 02 03 01 04 00 00 | 02 02 00 00 00 01 00 00 | 03 03 06 00 00 00 00 00 | 00 02 00 00 01 01 00 00
-         | 05 01 00 00 01 01 00 01 | 00 01 00 00 00 00 00 02 | 00 01 03 00 | 03 01 38 00 | 00 06 04 00",
+        "message_passing_with_dmb_sy_and_ctrl_link",
         "chip allowed 2 5 1 56 57 3 4;",
     ),
     (
@@ -57,9 +53,7 @@ pub const ANSWERS: [(&str, &str, &str); 29] = [
     (
         // .. || 4 R y 1; 5 R z 0, addr from 4; 6 isb; 7 R x 0
         "addr, then an isb, then a read",
-        "02 07 03 04 01 04 00 00 | 02 02 00 00 00 01 00 00 | 03 03 06 00 00 00 00 00 | 00 02 00 00 01 01 00 00
-         | 05 01 00 00 01 01 00 01 | 06 01 00 00 02 00 00 02 | 07 03 07 00 00 00 00 00 | 00 01 00 00 00 00 00 04
-         | 00 01 03 00 | 03 01 3a 00 | 00 05 04 00 | 00 01 38 00",
+        "message_passing_with_dmb_sy_addr_link_and_isb",
         "chip broken 5 1 3 4 7;",
     ),
     (

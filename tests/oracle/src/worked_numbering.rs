@@ -2,7 +2,7 @@
 //! each by one difference.
 
 use crate::sketch::*;
-use crate::worked::{NEWER_FIRST, STALE};
+use crate::worked::{EXAMPLE, NEWER_FIRST, STALE};
 
 const CTRL: u8 = 6;
 
@@ -108,8 +108,6 @@ const CHIP: &str = "02 04 02 03 01 04 00 00 | 02 01 00 00 00 00 00 01 | 03 03 07
     | 00 02 00 00 01 01 00 00 | 00 01 38 00 | 00 06 01 00 | 00 01 04 00";
 const EMPTY: &str = "01 00 02 00 00 00 00 00";
 const ONE_WRITE: &str = "01 01 01 00 01 00 00 00 | 00 02 00 00 00 01 00 00";
-/// 1 W x 1; 2 R x 1 || none || none || none.
-const EXAMPLE: &str = "01 02 01 01 01 00 00 00 | 02 02 00 00 00 01 00 00 | 00 01 00 00 00 01 00 01 | 00 01 01 00";
 
 /// Files that differ in numbering only.
 pub const SAME: [(&str, &str, &str); 15] = [

@@ -3,26 +3,19 @@
 use crate::worked::{EXAMPLE, NEWER_FIRST, ONE_EVENT, STALE};
 use crate::worked_isb::CTRL_ISB;
 use crate::worked_rings::OLDER_LAST;
+use crate::worked_tso::RELEASE_ACQUIRE;
 
 /// 1 W x 1; 2 F SC; 3 R y 0 || 4 W y 1; 5 F SC; 6 R x 0.
-const SC_FENCES: &str = "01 06 02 02 01 04 00 00 | 02 02 00 00 00 01 00 00 | 03 03 04 00 00 00 00 00 | 00 01 00 00 01 00 00 01
-    | 05 02 00 00 01 01 00 00 | 06 03 04 00 00 00 00 00 | 00 01 00 00 00 00 00 02 | 00 01 39 00 | 00 01 38 00";
+const SC_FENCES: &str = "store_buffering_with_sc_fences";
 /// 1 W x 1; 5 F release; 2 W y 1 || 3 R y 1; 6 F acquire; 4 R x 0.
-const BOTH_FENCES: &str = "01 06 02 02 01 03 00 00 | 05 02 00 00 00 01 00 00 | 00 02 00 00 01 01 00 00 | 06 01 00 00 01 01 00 01
-    | 00 01 00 00 00 00 00 02 | 02 03 02 00 00 00 00 00 | 04 03 01 00 00 00 00 00 | 00 01 02 00 | 00 01 38 00";
+const BOTH_FENCES: &str = "message_passing_with_both_fences";
 /// 1 R y 1; 2 W z 1, data from 1 || 3 R z 1; 4 R exclusive x 0; 5 W release strong x 1, rmw; 6 W y 1.
-const STRONG: &str = "01 06 03 05 01 03 00 00 | 02 01 00 00 01 01 00 01 | 00 02 00 00 02 01 00 02 | 04 01 00 00 02 01 00 03
-    | 05 01 00 01 00 00 00 04 | 06 02 02 01 00 01 00 05 | 00 02 00 00 01 01 00 00 | 00 01 06 00 | 00 04 01 00 | 00 01 02 00
-    | 00 01 38 00 | 00 03 04 00";
+const STRONG: &str = "strong_release_pair_before_a_write";
 /// 1 R x 1; 2 W y 1, data from 1 || 3 R y 1; 4 W x 1, data from 3.
 const CHIP_DATA: &str = "02 04 02 04 01 03 00 00 | 02 01 00 00 00 01 00 01 | 00 02 00 00 01 01 00 02 | 04 01 00 00 01 01 00 03
     | 00 02 00 00 00 01 00 04 | 00 01 04 00 | 00 04 01 00 | 00 01 02 00 | 00 04 03 00";
-/// 1 W release x 1; 2 R acquire y 0 || 3 W release y 1; 4 R acquire x 0.
-const RELEASE_ACQUIRE: &str = "01 04 02 02 01 03 00 00 | 02 02 02 00 00 01 00 00 | 00 01 01 00 01 00 00 01 | 04 02 02 00 01 01 00 00
-    | 00 01 01 00 00 00 00 02 | 00 01 39 00 | 00 01 38 00";
 /// 1 R exclusive x 0; 2 W x 1, rmw || 3 R exclusive x 0; 4 W x 2, rmw. co leads from 2 to 4.
-const TWO_PAIRS: &str = "01 04 01 05 01 03 00 00 | 02 01 00 01 00 00 00 01 | 00 02 00 00 00 01 00 02 | 04 01 00 01 00 00 00 03
-    | 00 02 00 00 00 02 00 04 | 00 01 38 00 | 00 03 01 00 | 00 01 38 00 | 05 02 02 00 | 00 03 03 00";
+const TWO_PAIRS: &str = "two_pairs_both_reading_the_initial_write";
 const NO_SOURCE: &str = "02 01 01 00 01 00 00 00 | 00 01 00 00 00 00 00 00";
 const UNORDERED: &str = "02 02 01 00 01 02 00 00 | 00 02 00 00 00 01 00 00 | 00 02 00 00 00 02 00 00";
 

@@ -1,6 +1,4 @@
 //! A small pseudo-random generator (splitmix64), so that files follow from their seed.
-//! A module of the oracle and the benchmark, which does not use all of it.
-#![allow(dead_code)]
 
 pub struct Random {
     state: u64,

@@ -1,15 +1,12 @@
-//! The benchmark's files, all made from fixed seeds: the litmus table, recordings of full size by their verdict,
-//! and damaged ones by their cause.
+//! The benchmark's files, all from fixed seeds: the litmus table, recordings of full size by their verdict, and damaged ones by their cause.
+//! The oracle's generator draws them; which is of which verdict or cause says the plain implementation.
 
-mod damage;
-mod draft;
-mod litmus;
-mod recordings;
-
-use crate::calls::{refusal, rule, written, Call, Function, ARMV8, CALLS, IMM, JUDGE, LOAD, PAGE, ROOM, TRANSLATE, TSO};
+use crate::calls::{refusal, rule, written, Call, ARMV8, CALLS, IMM, JUDGE, LOAD, PAGE, ROOM, TRANSLATE, TSO};
 use crate::plain;
 use crate::plain::recording::{CHIP, SOURCE};
-use crate::random::Random;
+use oracle::damage::{damaged_full_file, full_file};
+use oracle::litmus;
+use oracle::random::Random;
 
 pub type File = Vec<u8>;
 
@@ -34,7 +31,8 @@ const MOST_DRAWN: usize = 100_000;
 /// Every row of the table.
 pub fn rows() -> Vec<Row> {
     let mut rows = Vec::new();
-    source_rows(&mut rows, "litmus", &litmus::files());
+    let litmus: Vec<File> = litmus::ROWS.iter().map(|row| row.file.to_vec()).collect();
+    source_rows(&mut rows, "litmus", &litmus);
     sized_rows(&mut rows, SOURCE);
     sized_rows(&mut rows, CHIP);
     damaged_rows(&mut rows);
@@ -65,7 +63,13 @@ fn translation(file: &[u8]) -> File {
 /// The full size of one kind: all files together, then by the verdict of IMM on a source, of ARMv8 on a chip.
 fn sized_rows(rows: &mut Vec<Row>, kind: u8) {
     let (name, verdict) = if kind == SOURCE { ("source", IMM) } else { ("chip", ARMV8) };
-    let by_outcome = recordings_by_outcome(kind, verdict.plain);
+    let mut random = Random::new(kind as u64);
+    let by_outcome = drawn(OUTCOMES, || {
+        let file = full_file(&mut random, kind);
+        let answer = (verdict.plain)(&file, &mut [0; ROOM]);
+        assert_eq!(refusal(answer), 0, "a drawn recording loads");
+        (rule(answer), file)
+    });
     let all = by_outcome.concat();
     if kind == SOURCE {
         source_rows(rows, name, &all);
@@ -76,34 +80,18 @@ fn sized_rows(rows: &mut Vec<Row>, kind: u8) {
     }
     for (outcome, files) in OUTCOMES.into_iter().zip(by_outcome) {
         let word = if outcome == 0 { "allowed".to_string() } else { format!("broken-{outcome}") };
-        let verdict = if kind == SOURCE { IMM } else { ARMV8 };
         add(rows, &format!("{name}-{word}"), verdict, files);
     }
 }
 
-/// So many recordings of each outcome.
-fn recordings_by_outcome(kind: u8, verdict: Function) -> [Vec<File>; 4] {
-    let mut random = Random::new(kind as u64);
-    let mut found: [Vec<File>; 4] = Default::default();
-    for _ in 0..MOST_DRAWN {
-        let file = recordings::draw(&mut random, kind).to_bytes(&mut random);
-        let answer = verdict(&file, &mut [0; ROOM]);
-        assert_eq!(refusal(answer), 0, "a drawn recording loads");
-        if let Some(place) = OUTCOMES.iter().position(|&outcome| outcome == rule(answer)) {
-            if found[place].len() < EACH {
-                found[place].push(file);
-            }
-        }
-        if found.iter().all(|files| files.len() == EACH) {
-            return found;
-        }
-    }
-    panic!("too few recordings of an outcome among {MOST_DRAWN}");
-}
-
 /// All calls on damaged files of every cause, then loading by cause.
 fn damaged_rows(rows: &mut Vec<Row>) {
-    let by_cause = CAUSES.map(damaged_by);
+    let mut random = Random::new(100);
+    let mut kinds = [SOURCE, CHIP].into_iter().cycle();
+    let by_cause = drawn(CAUSES, || {
+        let file = damaged_full_file(&mut random, kinds.next().expect("a cycle goes on"));
+        (plain::load(&file) as u8, file)
+    });
     for call in CALLS {
         add(rows, "damaged", call, by_cause.concat());
     }
@@ -112,15 +100,19 @@ fn damaged_rows(rows: &mut Vec<Row>) {
     }
 }
 
-/// So many files that a cause refuses, of both kinds where it can be.
-fn damaged_by(cause: u8) -> Vec<File> {
-    let mut random = Random::new(100 + cause as u64);
-    let make = |place: usize| {
-        let kind = if cause == 10 || place % 2 == 0 { SOURCE } else { CHIP };
-        let draft = recordings::draw(&mut random, kind);
-        let file = damage::damaged(&mut random, draft, cause);
-        assert_eq!(plain::load(&file), cause as u64, "a damaged file is refused by its cause");
-        file
-    };
-    (0..EACH).map(make).collect()
+/// So many files of each outcome, the first ones that are drawn.
+fn drawn<const N: usize>(outcomes: [u8; N], mut draw: impl FnMut() -> (u8, File)) -> [Vec<File>; N] {
+    let mut found = outcomes.map(|_| Vec::new());
+    for _ in 0..MOST_DRAWN {
+        let (outcome, file) = draw();
+        if let Some(place) = outcomes.iter().position(|&wanted| wanted == outcome) {
+            if found[place].len() < EACH {
+                found[place].push(file);
+            }
+        }
+        if found.iter().all(|files| files.len() == EACH) {
+            return found;
+        }
+    }
+    panic!("too few files of an outcome among {MOST_DRAWN}");
 }
