@@ -1,8 +1,7 @@
 // The ARMv8 verdict over the base of an execution graph: the rules of `models` and what is shown of them.
 
-pub mod file;
 mod ob;
-mod why;
+pub mod why;
 
 use relation::grid;
 use verdict::Verdict;
@@ -27,7 +26,8 @@ pub fn judge(sets: Sets, relations: Relations) -> Verdict
     if broken.len != 0 {
         return broken;
     }
-    // Rule 5.
-    let ob = ob::ob(sets, relations, grid::minus(fr, po), grid::minus(co, po));
+    // Rule 5: ob = obs ∪ dob ∪ aob ∪ bob
+    let clauses = ob::clauses(sets, relations, grid::minus(fr, po), grid::minus(co, po));
+    let ob = clause::union(clauses);
     shown::acyclicity(ob, sets[base::EVENTS])
 }

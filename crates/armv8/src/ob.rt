@@ -140,12 +140,3 @@ pub fn clauses(sets: Sets, relations: Relations, fre: Grid, coe: Grid) -> Clause
         b[4],
     ]
 }
-
-// ob = obs ∪ dob ∪ aob ∪ bob
-pub fn ob(sets: Sets, relations: Relations, fre: Grid, coe: Grid) -> Grid
-    ensures { λ r. ⌜ (let B : Base = baseOf sets relations in
-        edge fre ≡ eval nodes frₑ B → edge «coe» ≡ eval nodes coₑ B
-        → edge r ≡ eval nodes armv8.ob B) ⌝ }
-{
-    clause::union(clauses(sets, relations, fre, coe))
-}

@@ -1,8 +1,9 @@
 -- Laws of clauses as grids and of the steps of a ring, for the loops over them.
-use mathlib.Core.Bool.{Bool, true, false, _||_}
+use mathlib.Core.Bool.{true, false, _||_, or-false, or-assoc}
 use mathlib.Core.Path.{_≡_, refl, sym, ap, subst, _∙_, fun-ext}
 use mathlib.Core.List.{List, [], _∷_, _++_, map}
 use Prim.Native.Nat.{ℕ, zero, suc, _+_, _-_, _<_, _≤_}
+use Prim.Native.String.{String}
 use native.Mathlib.Numerals.{add-one}
 use native.Mathlib.Omega.{arith}
 use borrow.Author.Tests.{ne-eqb}
@@ -12,16 +13,16 @@ use lib.Seq.{take-suc-set, drop-cons, getD-take, length-take-le}
 use Rattle.relation.specs.Rel.{Rel, none, empty, union, either, nodes}
 use Rattle.relation.specs.Bits.{edge}
 use Rattle.relation.specs.Ring.{after}
-use Rattle.relation.proofs.SetLaws.{or-false, or-assoc}
 use Rattle.relation.proofs.RingWalks.{getD-any}
 use Rattle.models.specs.Graph.{Base}
 use Rattle.models.specs.Term.{Term, eval}
-use Rattle.models.specs.Clause.{Clause, tested, numberFrom, unions}
+use Rattle.models.specs.Clause.{Clause, _≔_, tested, numberFrom, unions}
 use Rattle.models.specs.Why.{Clauses, clausesOf}
 use Rattle.models.proofs.ClauseLaws.{number-here, number-later, unions-both}
 use Rattle.verdict.specs.declared.Verdict.{Verdict}
 use Rattle.verdict.specs.Answer.{ruleOf}
 use Rattle.verdict.specs.Shown.{events}
+use Rattle.verdict.proofs.TermLaws.{Is}
 use Rattle.clause.specs.Steps.{ring, stepsTo, stepsOf, nones, Held, StepsBy}
 
 -- The first k of the grids are passed, as none of them has the pair (a, b).
@@ -123,12 +124,29 @@ number-nones : (rs : List Rel) (m n a b : ℕ) → numberFrom m (rs ++ nones n) 
 unfolding numberFrom none empty
 number-nones [] m zero a b = refl
 number-nones [] m (suc n) a b = number-nones [] (suc m) n a b
-number-nones (r ∷ rs) m n a b = by (r a b) refl (number-nones rs (suc m) n a b)
-  where
-    by : (t : Bool) → r a b ≡ t → numberFrom (suc m) (rs ++ nones n) a b ≡ numberFrom (suc m) rs a b
-        → numberFrom m (r ∷ (rs ++ nones n)) a b ≡ numberFrom m (r ∷ rs) a b
-    by true e rest = number-here m r (rs ++ nones n) a b e ∙ sym (number-here m r rs a b e)
-    by false e rest = number-later m r (rs ++ nones n) a b e ∙ rest ∙ sym (number-later m r rs a b e)
+number-nones (r ∷ rs) m n a b = ap (λ (z : ℕ). elim (r a b) [ true ↦ m | false ↦ z ]) (number-nones rs (suc m) n a b)
+
+-- The grids are the clauses of the base B, one by one, and behind them empty ones.
+pub data Each (B : Base) : List Clause → List (List (List ℕ)) → Type 0 where
+  each-none : Each B [] []
+  each-empty : {g : List (List ℕ)} {gs : List (List (List ℕ))} → edge g ≡ none → Each B [] gs → Each B [] (g ∷ gs)
+  each-more : {s : String} {t : Term} {cs : List Clause} {g : List (List ℕ)} {gs : List (List (List ℕ))} → Is B t (edge g) → Each B cs gs
+      → Each B ((s ≔ t) ∷ cs) (g ∷ gs)
+
+module _ {B : Base} where
+  each-tested : {cs : List Clause} {gs : List (List (List ℕ))} → Each B cs gs → (n : ℕ) → n + length cs ≡ length gs
+      → map edge gs ≡ tested nodes B cs ++ nones n
+  each-tested each-none zero l = refl
+  each-tested each-none (suc n) l = absurd (omega arith)
+  each-tested (each-empty e w) zero l = absurd (omega arith)
+  each-tested (each-empty e w) (suc n) l = λ i. e i ∷ each-tested w n (omega arith) i
+  each-tested (each-more p w) n l = λ i. p .is i ∷ each-tested w n (omega arith) i
+
+  pub held-each : {cs : List Clause} {gs : List (List (List ℕ))} (size : ℕ) → (size - length cs) + length cs ≡ length gs → Each B cs gs → Held size cs B gs
+  held-each size l w = record { clauses = each-tested w _ l }
+
+-- By these and `terms` `search` finds that a function's calls compute the clauses.
+pub ruleset each = (each-none, each-empty, each-more)
 
 module _ (size : ℕ) (cs : List Clause) (B : Base) (grids : List (List (List ℕ))) (w : Held size cs B grids) where
   -- The grid at a place.

@@ -45,10 +45,10 @@ base-of r sets relations s t =
     }
 
 -- Links that are held by target, turned.
-pub links-of : (f : List ℕ) (rows : List (List (List ℕ))) → LinkRows f rows → (t : ℕ) → 1 ≤ t → t < 8 → (g : Rel) → g ≡ inverse (edge (getD rows t []))
+pub links-of : {f : List ℕ} {rows : List (List (List ℕ))} → LinkRows f rows → (t : ℕ) → 1 ≤ t → t < 8 → {g : Rel} → g ≡ inverse (edge (getD rows t []))
     → g ≡ decode f .link t
 unfolding inverse
-links-of f rows w t h k g p = p ∙ ap inverse (w .grid t h k)
+links-of w t h k p = p ∙ ap inverse (w .grid t h k)
 
 -- A verdict over the arrays of a file that loads is one on its recording.
 module _ (M : Model) (Judged : Base → Verdict → Type 0) (f : List ℕ) (v : Verdict) where

@@ -10,7 +10,7 @@ use borrow.Author.Tests.{eq-eqb, ne-eqb, ltb-true}
 use lib.Dec.{eqb, ltb}
 use lib.ListN.{length, getD, drop, drop-of-length-le}
 use lib.Seq.{drop-cons}
-use Rattle.relation.proofs.Meaning.{and-left, and-right}
+use Rattle.relation.proofs.Truth.{and-left, and-right}
 use Rattle.models.specs.Clause.{Clause, name}
 use Rattle.models.specs.Why.{Clauses, clausesOf}
 use Rattle.decimal.specs.Decimal.{decimal}
@@ -18,7 +18,8 @@ use Rattle.lines.specs.declared.Model.{Model}
 use Rattle.lines.specs.declared.Text.{Text}
 use Rattle.lines.specs.Lines.{spaced, parted}
 use Rattle.lines.specs.Put.{bytes, Room, Put}
-use Rattle.explanation.specs.StepLine.{ascii, nameOf, stepLine, clausesFor, leftAt, left, keptAt, kept, wordAt, Names}
+use Rattle.verdicts.specs.ByModel.{clausesFor}
+use Rattle.explanation.specs.StepLine.{ascii, nameOf, stepLine, leftAt, left, keptAt, kept, wordAt, Names}
 use Rattle.lines.proofs.PutLaws.{put-none, put-then, put-as}
 
 -- A byte that is kept, and one that is not.

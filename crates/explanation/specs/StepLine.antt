@@ -9,10 +9,7 @@ use lib.Dec.{eqb}
 use lib.ListN.{getD}
 use Rattle.decimal.specs.Decimal.{decimal}
 use Rattle.models.specs.Clause.{Clause, name}
-use Rattle.models.specs.Why.{Clauses, immRings, armv8Rings, tsoRings}
 use Rattle.clause.specs.Steps.{joined}
-use Rattle.lines.specs.declared.Model.{Model}
-use Rattle.lines.specs.declared.Model.the-variants.{Source, Chip, Tso}
 use Rattle.lines.specs.Lines.{parted}
 
 -- n bytes of a text in ASCII, from its byte i on.
@@ -38,13 +35,7 @@ stepLine word cs step = parted (word ∷ decimal (getD step 0 0) ∷ decimal (ge
 abbrev pub stepLines : List ℕ → List Clause → List (List ℕ) → List ℕ
 stepLines word cs steps = joined (map (stepLine word cs) steps)
 
--- The rest says what the parts do. The clauses of the model that a line is of:
-abbrev pub clausesFor : Model → Clauses
-clausesFor Source = immRings
-clausesFor Chip = armv8Rings
-clausesFor Tso = tsoRings
-
--- A name is found among words that single spaces part, byte by byte, with the number of words from here to the one that is wanted, which is 1
+-- The rest says what the parts do. A name is found among words that single spaces part, byte by byte, with the number of words from here to the one that is wanted, which is 1
 -- within it.
 abbrev pub leftAt : Bool → ℕ → ℕ
 leftAt true zero = zero

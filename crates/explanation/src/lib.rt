@@ -26,7 +26,8 @@ ghost use Rattle.clause.specs.Steps.{ring, Explained};
 ghost use Rattle.translation.specs.Translation.{translation};
 ghost use Rattle.lines.specs.Lines.{modelWord};
 ghost use Rattle.lines.specs.Put.{bytes};
-ghost use Rattle.explanation.specs.StepLine.{stepLines, clausesFor};
+ghost use Rattle.verdicts.specs.ByModel.{clausesFor};
+ghost use Rattle.explanation.specs.StepLine.{stepLines};
 ghost use Rattle.judgement.specs.Judgement.{OnChip, lineFor};
 ghost use Rattle.explanation.specs.Why.{SourceWhy, PrintsWhy};
 
@@ -108,7 +109,7 @@ fn chip_steps(file: &[u8], v: Verdict) -> Steps
     let mut bytes = [0u8; 1320];
     match translation::written(file, &mut bytes) {
         Filled::Refused(_) => [[0u8; 3]; 64],
-        Filled::Written(n) => armv8::file::explained(&bytes[..n], v),
+        Filled::Written(n) => verdicts::explained(Model::Chip, &bytes[..n], v),
     }
 }
 
@@ -126,10 +127,15 @@ fn printed_source(file: &[u8]) -> Explanation
         empty(),
         Model::Source,
         source,
-        imm::file::explained(file, source),
+        verdicts::explained(Model::Source, file, source),
     );
     let second = reasoned(first, Model::Chip, chip, chip_steps(file, chip));
-    reasoned(second, Model::Tso, tso, tso::file::explained(file, tso))
+    reasoned(
+        second,
+        Model::Tso,
+        tso,
+        verdicts::explained(Model::Tso, file, tso),
+    )
 }
 
 // What is printed of a file.
@@ -148,8 +154,13 @@ pub fn printed(file: &[u8]) -> Explanation
     if source {
         return printed_source(file);
     }
-    let v = armv8::file::loaded(file);
-    reasoned(empty(), Model::Chip, v, armv8::file::explained(file, v))
+    let v = verdicts::loaded(Model::Chip, file);
+    reasoned(
+        empty(),
+        Model::Chip,
+        v,
+        verdicts::explained(Model::Chip, file, v),
+    )
 }
 
 // What is printed of an input, of which the first n bytes of `start` were read.

@@ -11,7 +11,8 @@ ghost use lib.ListN.{length};
 ghost use Rattle.models.specs.Why.{Clauses, clausesOf};
 ghost use Rattle.lines.specs.Lines.{modelWord};
 ghost use Rattle.lines.specs.Put.{bytes, Room, Put};
-ghost use Rattle.explanation.specs.StepLine.{left, kept, wordAt, Names, nameOf, stepLine, clausesFor};
+ghost use Rattle.verdicts.specs.ByModel.{clausesFor};
+ghost use Rattle.explanation.specs.StepLine.{left, kept, wordAt, Names, nameOf, stepLine};
 
 // How many words are left to the one that is wanted, behind the byte b.
 fn left(n: u8, b: u8) -> u8

@@ -1,19 +1,16 @@
--- The ring of IMM's rule 3: where the rule is broken, steps of po or sw and at most one of eco come back to an event,
--- and the closing step is eco only in a ring of two or more events.
-use mathlib.Core.Path.{_≡_, refl, sym, ap, subst, _∙_, fun-ext}
-use mathlib.Core.Bool.{Bool, true, false, not, _&&_, false≢true}
-use mathlib.Core.List.{List}
+-- The ring of IMM's rule 3: where the rule is broken, steps of po or sw and at most one of eco come back to an event.
+use mathlib.Core.Path.{_≡_, refl, ap, subst, _∙_, fun-ext}
+use mathlib.Core.List.{List·Memᴰ}
+use mathlib.Core.Bool.{Bool, true, false, not, _&&_}
 use mathlib.Core.Logic.{_⊎_, inl, inr}
-use Prim.Native.Nat.{ℕ, zero, _<_}
-use native.Mathlib.Omega.{arith}
-use native.Mathlib.Decide.{ℕ-discrete, decLt}
-use borrow.Author.Tests.{eqb-true, ne-eqb, eq-eqb, lt-ltb}
+use Prim.Native.Nat.{ℕ}
+use native.Mathlib.Decide.{ℕ-discrete}
+use borrow.Author.Tests.{eqb-true, ne-eqb, lt-ltb}
 use lib.Dec.{eqb, ltb}
-use lib.ListN.{length, getD, List·getD-eq-default}
 use Rattle.relation.specs.Rel.{Set, Rel, union, difference, either, minus, identity, optional, plus, nodes}
-use Rattle.relation.specs.Ring.{after, closed, under, Ring}
-use Rattle.relation.proofs.SetLaws.{and-false}
-use Rattle.relation.proofs.Meaning.{Mem, and-left, and-right, and-both, or-either, or-left, or-right, compose-sound, compose-complete}
+use Rattle.relation.specs.Ring.{closed, under}
+use Rattle.relation.proofs.Truth.{and-left, and-right, and-both, or-either, or-left, or-right}
+use Rattle.relation.proofs.Meaning.{compose-sound, compose-complete}
 use Rattle.relation.proofs.Walks.{Inside}
 use Rattle.relation.proofs.RingMeaning.{plus-closed}
 use Rattle.models.specs.Graph.{Base}
@@ -73,36 +70,5 @@ around B inside x p =
     by-steps : plus nodes (steps B) x x ≡ true → closed (steps B) (closing B) x x ≡ true
     by-steps q = closed-within (steps B) (steps B) (closing B) (step-closes B) x (plus-closed (steps B) inside x q)
 
-    by-eco : (y : ℕ) → Mem y nodes → plus nodes (steps B) x y ≡ true → closing B y x ≡ true → closed (steps B) (closing B) x x ≡ true
+    by-eco : (y : ℕ) → List·Memᴰ y nodes → plus nodes (steps B) x y ≡ true → closing B y x ≡ true → closed (steps B) (closing B) x x ≡ true
     by-eco y m a h = or-right (closing B x x) _ (compose-complete nodes (plus nodes (steps B)) (closing B) x y x m a h)
-
--- The closing step of a ring is po or sw, or it is eco and the ring has two or more events.
-not-apart : (r : Rel) (x y : ℕ) → x ≡ y → apart r x y ≡ false
-unfolding apart
-not-apart r x y e = rw (eq-eqb x y e) (and-false (r x y))
-
-pub closing-step : (B : Base) (l : List ℕ) (w : Ring (steps B) (closing B) l)
-    → let a = getD l (w .closing) zero in
-    let b = after l (w .closing) in
-    (steps B a b ≡ true) ⊎ ((eval nodes eco B a b ≡ true) × (1 < length l))
-unfolding closing apart either union after
-closing-step B l w = go (or-either (steps B a b) _ (w .closes))
-  where
-    a : ℕ
-    a = getD l (w .closing) zero
-
-    b : ℕ
-    b = after l (w .closing)
-
-    two : apart (eval nodes eco B) a b ≡ true → 1 < length l
-    two h =
-        elim (decLt 1 (length l)) [
-          | yes q ↦ q
-          | no q ↦ let alone : a ≡ b
-              = ap (λ (k : ℕ). getD l k zero) (omega (arith, q, w .inside)) ∙ sym (List·getD-eq-default l (getD l zero zero) (omega (arith, q))) in
-              absurd (false≢true (sym (not-apart (eval nodes eco B) a b alone) ∙ h))
-        ]
-
-    go : (steps B a b ≡ true) ⊎ (apart (eval nodes eco B) a b ≡ true) → (steps B a b ≡ true) ⊎ ((eval nodes eco B a b ≡ true) × (1 < length l))
-    go (inl h) = inl h
-    go (inr h) = inr (and-left _ _ h, two h)

@@ -6,7 +6,7 @@ use mathlib.Core.Logic.{inl, inr}
 use Prim.Native.Nat.{ℕ}
 use lib.ListN.{length, take}
 use Rattle.relation.specs.Rel.{Rel, either, union, nodes}
-use Rattle.relation.proofs.Meaning.{or-left, or-right}
+use Rattle.relation.proofs.Truth.{or-left, or-right}
 use Rattle.models.specs.Recording.{Recording}
 use Rattle.models.specs.Graph.{Base, base, Within}
 use Rattle.models.specs.Term.{eval}

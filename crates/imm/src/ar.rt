@@ -123,22 +123,3 @@ pub fn clauses(
         none,
     ]
 }
-
-// ar = rfe ∪ bob ∪ ppo ∪ detour ∪ psc ∪ [Wstrong] ; po ; [W]
-pub fn ar(
-    sets: Sets,
-    relations: Relations,
-    poloc: Grid,
-    rfe: Grid,
-    rfi: Grid,
-    coe: Grid,
-    hb: Grid,
-    eco: Grid,
-) -> Grid
-    ensures { λ r. ⌜ (let B : Base = baseOf sets relations in
-        edge poloc ≡ eval nodes po-loc B → edge rfe ≡ eval nodes rfₑ B → edge rfi ≡ eval nodes rfᵢ B → edge «coe» ≡ eval nodes coₑ B
-        → edge hb ≡ eval nodes imm.hb B → edge eco ≡ eval nodes imm.eco B
-        → edge r ≡ eval nodes imm.ar B) ⌝ }
-{
-    clause::union(clauses(sets, relations, poloc, rfe, rfi, coe, hb, eco))
-}

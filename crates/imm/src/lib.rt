@@ -1,9 +1,8 @@
 // The IMM verdict over the base of an execution graph: the rules of `models` and what is shown of them.
 
 mod ar;
-pub mod file;
 mod hb;
-mod why;
+pub mod why;
 
 use relation::grid;
 use relation::row;
@@ -48,7 +47,8 @@ pub fn judge(sets: Sets, relations: Relations) -> Verdict
     if broken.len != 0 {
         return broken;
     }
-    // Rule 5.
-    let ar = ar::ar(sets, relations, poloc, rfe, rfi, coe, hb, eco);
+    // Rule 5: ar = rfe ∪ bob ∪ ppo ∪ detour ∪ psc ∪ [Wstrong] ; po ; [W]
+    let clauses = ar::clauses(sets, relations, poloc, rfe, rfi, coe, hb, eco);
+    let ar = clause::union(clauses);
     shown::acyclicity(ar, sets[base::EVENTS])
 }

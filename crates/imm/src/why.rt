@@ -1,23 +1,19 @@
-// The clauses by which the steps of a ring are explained, and the steps.
+// The clauses by which the steps of a ring are explained.
 
 use crate::ar;
 use crate::hb;
 use clause::Clauses;
-use clause::Steps;
 use relation::grid;
-use verdict::Verdict;
 use verdict::base;
 use verdict::base::Relations;
 use verdict::base::Sets;
 use verdict::rules;
-ghost use Prim.Native.Nat.{_≤_};
-ghost use Rattle.models.specs.Why.{clausesOf, immRings};
+ghost use Rattle.models.specs.Why.{immRings};
 ghost use Rattle.verdict.specs.Base.{baseOf};
-ghost use Rattle.verdict.specs.Answer.{ruleOf};
-ghost use Rattle.clause.specs.Steps.{Held, StepsBy};
+ghost use Rattle.clause.specs.Steps.{Held};
 
 // Rule 3: po and sw, and for the closing step those of eco.
-fn coherence(sets: Sets, relations: Relations) -> Clauses
+pub fn coherence(sets: Sets, relations: Relations) -> Clauses
     ensures { λ r. ⌜ Held 14 (immRings .rule3) (baseOf sets relations) r ⌝ }
 {
     let po = relations[base::PO];
@@ -54,7 +50,7 @@ fn coherence(sets: Sets, relations: Relations) -> Clauses
 }
 
 // Rule 5: those of ar.
-fn order(sets: Sets, relations: Relations) -> Clauses
+pub fn order(sets: Sets, relations: Relations) -> Clauses
     ensures { λ r. ⌜ Held 14 (immRings .rule5) (baseOf sets relations) r ⌝ }
 {
     let po = relations[base::PO];
@@ -76,27 +72,4 @@ fn order(sets: Sets, relations: Relations) -> Clauses
         hb,
         eco,
     )
-}
-
-// The clauses of a rule by its number.
-fn clauses(sets: Sets, relations: Relations, rule: u8) -> Clauses
-    ensures { λ r. ⌜ Held 14 (clausesOf immRings rule) (baseOf sets relations) r ⌝ }
-{
-    if rule == 3 {
-        return coherence(sets, relations);
-    }
-    if rule == 5 {
-        return order(sets, relations);
-    }
-    clause::none()
-}
-
-// The steps of the ring that a verdict shows, each with the number of its clause.
-pub fn why(sets: Sets, relations: Relations, v: Verdict) -> Steps
-    requires { ⌜ v .len ≤ 64 ⌝ }
-    ensures { λ r. ⌜ StepsBy (clausesOf immRings (ruleOf (v .answer))) (baseOf sets relations) v r ⌝ }
-{
-    let answer = v.answer;
-    let c = clauses(sets, relations, clause::rule(answer));
-    clause::explained(v, c)
 }

@@ -1,20 +1,19 @@
 -- Laws of what is printed: what the verdicts of the models say of each other, and the text by what loading answers.
 use mathlib.Core.Path.{_≡_, sym, ap, ap₂, subst, _∙_}
-use mathlib.Core.Bool.{true, false, false≢true}
+use mathlib.Core.Bool.{false≢true}
 use mathlib.Core.List.{List}
 use mathlib.Core.Logic.{inl, inr}
-use Prim.Native.Nat.{ℕ, suc, _+_}
+use Prim.Native.Nat.{ℕ, suc}
 use native.Mathlib.Omega.{arith}
-use lib.ListN.{take}
+use lib.ListN.{length, take}
 use Rattle.layout.specs.Layout as layout
 use Rattle.recording.specs.Causes.{refusal}
 use Rattle.recording.specs.Load.{headerOf, answer, loadOf, numberOf, LoadsAs}
-use Rattle.recording.specs.Input.{longest}
-use Rattle.recording.specs.declared.Header.{Header}
+use Rattle.recording.specs.Input.{ReadOf}
 use Rattle.recording.specs.declared.Load.{Load}
 use Rattle.recording.specs.declared.Load.the-variants.{Refused, Loaded}
-use Rattle.recording.proofs.CauseLaws.{loaded-side, load-number}
-use Rattle.recording.proofs.Longest.{read-of}
+use Rattle.recording.proofs.CauseLaws.{load-number}
+use Rattle.recording.proofs.Longest.{read-longest, read-of}
 use Rattle.verdict.specs.declared.Verdict.{Verdict}
 use Rattle.verdict.specs.Answer.{refuses, answers}
 use Rattle.verdict.proofs.ShownMeaning.{answers-injective}
@@ -58,35 +57,35 @@ module _ (Source Chip : List ℕ → List ℕ → Type 0) (f : List ℕ) (a : Lo
           let y : _≡_ {A = ℕ} 0 1 = cc in
           omega arith
 
-  module _ (h : Header) (loaded : a ≡ Loaded h) where
-    pub source-text : h .source ≡ true → (text : List ℕ) → Source f text → TextOf Source Chip f text
-    source-text e text said =
-        let l = loaded-side true f a h is loaded e in
-        record {
-          refused = λ n u. absurd (let y : suc n ≡ 0 = sym u ∙ l .loads in omega arith);
-          on-source = λ m. said;
-          on-chip = λ m. absurd (false≢true (sym (m .side-is) ∙ l .side-is));
-        }
+-- Of a file that loads, by its side.
+module _ (Source Chip : List ℕ → List ℕ → Type 0) (f text : List ℕ) where
+  pub source-text : LoadsAs layout.source f → Source f text → TextOf Source Chip f text
+  source-text l said =
+      record {
+        refused = λ n u. absurd (let y : suc n ≡ 0 = sym u ∙ l .loads in omega arith);
+        on-source = λ m. said;
+        on-chip = λ m. absurd (false≢true (sym (m .side-is) ∙ l .side-is));
+      }
 
-    pub chip-text : h .source ≡ false → (text : List ℕ) → Chip f text → TextOf Source Chip f text
-    chip-text e text said =
-        let l = loaded-side false f a h is loaded e in
-        record {
-          refused = λ n u. absurd (let y : suc n ≡ 0 = sym u ∙ l .loads in omega arith);
-          on-source = λ m. absurd (false≢true (sym (l .side-is) ∙ m .side-is));
-          on-chip = λ m. said;
-        }
+  pub chip-text : LoadsAs layout.chip f → Chip f text → TextOf Source Chip f text
+  chip-text l said =
+      record {
+        refused = λ n u. absurd (let y : suc n ≡ 0 = sym u ∙ l .loads in omega arith);
+        on-source = λ m. absurd (false≢true (sym (l .side-is) ∙ m .side-is));
+        on-chip = λ m. said;
+      }
 
 -- What is printed of what is read of an input is what is printed of the input.
-pub input-text : (Source Chip : List ℕ → List ℕ → Type 0) (input start text : List ℕ) → start ≡ take (longest + 1) input
-    → TextOf Source Chip start text → TextOf Source Chip input text
-input-text Source Chip input start text read w =
+pub input-text : (Source Chip : List ℕ → List ℕ → Type 0) (start text : List ℕ) (n : ℕ) → length start ≡ 1413 → TextOf Source Chip (take n start) text
+    → (input : List ℕ) → ReadOf input start n → TextOf Source Chip input text
+input-text Source Chip start text n long w input r =
+    let read = read-longest input start n long r in
     elim (read-of input) [
       | inl e ↦ subst (λ (f : List ℕ). TextOf Source Chip f text) (read ∙ e) w
-      | inr (n, all, part) ↦ record {
+      | inr (k, all, part) ↦ record {
         refused = λ m z. w .refused m (ap refusal read ∙ part ∙ sym all ∙ z);
-        on-source = λ l. absurd (not-loaded n all (l .loads));
-        on-chip = λ l. absurd (not-loaded n all (l .loads));
+        on-source = λ l. absurd (not-loaded k all (l .loads));
+        on-chip = λ l. absurd (not-loaded k all (l .loads));
       }
     ]
   where

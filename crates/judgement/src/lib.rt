@@ -46,7 +46,7 @@ pub fn chip(file: &[u8]) -> Verdict
     let mut bytes = [0u8; 1320];
     match translation::written(file, &mut bytes) {
         Filled::Refused(k) => verdict::refused(k),
-        Filled::Written(n) => armv8::file::loaded(&bytes[..n]),
+        Filled::Written(n) => verdicts::loaded(Model::Chip, &bytes[..n]),
     }
 }
 
@@ -112,7 +112,7 @@ pub fn printed(file: &[u8]) -> Lines
         let second = added(first, line(Model::Chip, verdicts.chip));
         return added(second, line(Model::Tso, verdicts.tso));
     }
-    single(line(Model::Chip, armv8::file::loaded(file)))
+    single(line(Model::Chip, verdicts::loaded(Model::Chip, file)))
 }
 
 // The lines that the judge prints of an input, of which the first n bytes of `start` were read.

@@ -79,9 +79,9 @@ pub fn printed(file: &[u8]) -> Page
     };
     let source = h.source;
     if source {
-        return starred(file, imm::file::loaded(file));
+        return starred(file, verdicts::loaded(Model::Source, file));
     }
-    starred(file, armv8::file::loaded(file))
+    starred(file, verdicts::loaded(Model::Chip, file))
 }
 
 // What is printed of an input, of which the first n bytes of `start` were read.

@@ -1,6 +1,6 @@
 -- Facts of chains on which nothing is met twice: each stays within the limit, ends, and shares nothing with another.
 use mathlib.Core.Path.{_≡_, refl, sym, ap, subst, _∙_}
-use mathlib.Core.Bool.{Bool, true, false, not, _&&_, _||_, false≢true}
+use mathlib.Core.Bool.{Bool, true, false, not, _&&_, _||_, false≢true, or-assoc}
 use mathlib.Core.List.{List, [], _∷_, _++_}
 use mathlib.Core.Logic.{_⊎_, inl, inr}
 use Prim.Native.Nat.{ℕ, zero, suc, _-_, _<_, _≤_}
@@ -9,10 +9,10 @@ use native.Mathlib.Decide.{ℕ-discrete, decLt}
 use borrow.Author.Tests.{eq-eqb, eqb-true, leb-true, not-true}
 use lib.Dec.{eqb, leb}
 use lib.ListN.{length, getD}
-use Rattle.relation.proofs.Meaning.{and-left, and-right, or-left, or-right, or-either}
+use Rattle.relation.proofs.Truth.{and-left, and-right, or-left, or-right, or-either, or-none}
 use Rattle.relation.proofs.Pigeonhole.{Twice, pigeonhole}
 use Rattle.layout.specs.Chains.{among, follow, chain, met, fresh, pushed}
-use Rattle.layout.proofs.ChainLaws.{follow-end, follow-in, follow-over, fresh-append, among-pushed}
+use Rattle.layout.proofs.ChainLaws.{follow-end, follow-in, follow-over, fresh-behind, among-pushed}
 
 -- Membership.
 pub among-here : (x y : ℕ) (l : List ℕ) → x ≡ y → among x (y ∷ l) ≡ true
@@ -30,11 +30,7 @@ among-cases x y l e = elim (or-either (eqb x y) (among x l) e) [ inl p ↦ inl (
 pub among-append : (x : ℕ) (k l : List ℕ) → among x (k ++ l) ≡ among x k || among x l
 unfolding among
 among-append x [] l = refl
-among-append x (y ∷ k) l = ap (λ (b : Bool). eqb x y || b) (among-append x k l) ∙ assoc (eqb x y) (among x k) (among x l)
-  where
-    assoc : (a b c : Bool) → a || (b || c) ≡ (a || b) || c
-    assoc true b c = refl
-    assoc false b c = refl
+among-append x (y ∷ k) l = ap (λ (b : Bool). eqb x y || b) (among-append x k l) ∙ sym (or-assoc (eqb x y) (among x k) (among x l))
 
 among-at : (l : List ℕ) (i : ℕ) → i < length l → among (getD l i 0) l ≡ true
 among-at [] i h = absurd (omega arith)
@@ -72,12 +68,8 @@ fresh-new limit seen (y ∷ l) x e m =
     let w = fresh-cons limit seen y l e in
     elim (among-cases x y l m) [
       | inl p ↦ ap (λ (z : ℕ). among z seen) p ∙ w .new
-      | inr p ↦ later (eqb x y) (among x seen) (fresh-new limit (y ∷ seen) l x (w .rest) p)
+      | inr p ↦ or-none (eqb x y) (among x seen) (fresh-new limit (y ∷ seen) l x (w .rest) p) .1
     ]
-  where
-    later : (a b : Bool) → a || b ≡ false → b ≡ false
-    later true b q = absurd (false≢true (sym q))
-    later false b q = q
 
 fresh-apart : (limit : ℕ) (seen l : List ℕ) → fresh limit seen l ≡ true → (i j : ℕ) → i < j → j < length l → getD l i 0 ≡ getD l j 0 → ⊥
 unfolding among
@@ -179,6 +171,10 @@ module _ (limit : ℕ) (next : ℕ → ℕ) where
   ended-after a (step {l = l} p q w) h = (l, w, refl, q)
 
   -- The start of a chain is 0 or on the chain.
+  pub ended-first : {x : ℕ} {k : List ℕ} → Ended limit next x k → (x ≡ 0) ⊎ (among x k ≡ true)
+  ended-first end = inl refl
+  ended-first (step {x = x} {l = l} p q w) = inr (among-here x x l refl)
+
   pub ended-start : {x : ℕ} {l : List ℕ} → Ended limit next x l → x ≤ limit
   ended-start end = omega arith
   ended-start (step a b v) = b
@@ -193,16 +189,7 @@ module _ (limit : ℕ) (next : ℕ → ℕ) where
 -- Chains from several starts, on which together nothing is met twice.
 module _ (limit : ℕ) (next start : ℕ → ℕ) where
   pub chain-fresh : (n j : ℕ) → j < n → fresh limit [] (met limit next start n) ≡ true → (seen : List ℕ) × (fresh limit seen (chain limit next (start j)) ≡ true)
-  unfolding met
-  chain-fresh zero j h e = absurd (omega arith)
-  chain-fresh (suc n) j h e =
-      let before = met limit next start n in
-      let here = chain limit next (start n) in
-      let both = sym (fresh-append limit [] before here) ∙ e in
-      elim (ℕ-discrete j n) [
-        | yes p ↦ (pushed before [], subst (λ (k : ℕ). fresh limit (pushed before []) (chain limit next (start k)) ≡ true) (sym p) (and-right (fresh limit [] before) _ both))
-        | no d ↦ chain-fresh n j (omega (arith, d)) (and-left (fresh limit [] before) (fresh limit (pushed before []) here) both)
-      ]
+  chain-fresh n j h e = (pushed (met limit next start j) [], fresh-behind limit next start n j h e)
 
   -- Each chain ends.
   pub chain-ended : (n j : ℕ) → j < n → fresh limit [] (met limit next start n) ≡ true → Ended limit next (start j) (chain limit next (start j))
@@ -236,31 +223,17 @@ module _ (limit : ℕ) (next start : ℕ → ℕ) where
       ]
 
   -- No number is on two chains.
-  later-apart : (n i x : ℕ) → i < n → fresh limit [] (met limit next start (suc n)) ≡ true → among x (chain limit next (start i)) ≡ true
-      → among x (chain limit next (start n)) ≡ true → ⊥
-  unfolding met
-  later-apart n i x h e p q =
-      let before = met limit next start n in
-      let here = chain limit next (start n) in
-      let both = sym (fresh-append limit [] before here) ∙ e in
-      let new = fresh-new limit (pushed before []) here x (and-right (fresh limit [] before) _ both) q in
-      false≢true (sym new ∙ among-pushed x before [] ∙ or-left (among x before) (among x []) (met-at n i x h p))
+  later-apart : (n i j x : ℕ) → i < j → j < n → fresh limit [] (met limit next start n) ≡ true → among x (chain limit next (start i)) ≡ true
+      → among x (chain limit next (start j)) ≡ true → ⊥
+  later-apart n i j x h g e p q =
+      let before = met limit next start j in
+      let new = fresh-new limit (pushed before []) (chain limit next (start j)) x (fresh-behind limit next start n j g e) q in
+      false≢true (sym new ∙ among-pushed x before [] ∙ or-left (among x before) (among x []) (met-at j i x h p))
 
   pub one-chain : (n i j x : ℕ) → i < n → j < n → fresh limit [] (met limit next start n) ≡ true → among x (chain limit next (start i)) ≡ true
       → among x (chain limit next (start j)) ≡ true → i ≡ j
-  unfolding met
-  one-chain zero i j x h g e p q = absurd (omega arith)
-  one-chain (suc n) i j x h g e p q =
-      let before = met limit next start n in
-      let here = chain limit next (start n) in
-      let both = sym (fresh-append limit [] before here) ∙ e in
-      elim (ℕ-discrete i j) [
-        | yes r ↦ r
-        | no d ↦ elim (ℕ-discrete j n) [
-          | yes r ↦ absurd (later-apart n i x (omega (arith, d)) e p (subst (λ (k : ℕ). among x (chain limit next (start k)) ≡ true) r q))
-          | no r ↦ elim (ℕ-discrete i n) [
-            | yes s ↦ absurd (later-apart n j x (omega (arith, r)) e q (subst (λ (k : ℕ). among x (chain limit next (start k)) ≡ true) s p))
-            | no s ↦ one-chain n i j x (omega (arith, s)) (omega (arith, r)) (and-left (fresh limit [] before) (fresh limit (pushed before []) here) both) p q
-          ]
-        ]
+  one-chain n i j x h g e p q =
+      elim (decLt i j) [
+        | yes l ↦ absurd (later-apart n i j x l g e p q)
+        | no l ↦ elim (decLt j i) [ yes k ↦ absurd (later-apart n j i x k h e q p) | no k ↦ omega (arith, l, k) ]
       ]

@@ -1,6 +1,6 @@
 -- Laws of chains: the walk with marks answers what the definitions say.
 use mathlib.Core.Path.{_≡_, refl, sym, ap, ap₂, subst, _∙_}
-use mathlib.Core.Bool.{Bool, true, false, not, _&&_, _||_, false≢true}
+use mathlib.Core.Bool.{Bool, true, false, not, _&&_, _||_, false≢true, or-false, and-assoc, or-assoc, or-comm}
 use mathlib.Core.List.{List, [], _∷_, _++_}
 use Prim.Native.Nat.{ℕ, zero, suc, _+_, _-_, _<_, _≤_}
 use native.Mathlib.Numerals.{add-one}
@@ -10,8 +10,7 @@ use borrow.Author.Tests.{eq-eqb, ne-eqb, le-leb, lt-leb}
 use lib.Dec.{eqb, leb}
 use lib.ListN.{length, getD, set, replicate, length-set}
 use lib.Seq.{getD-set-same, getD-set-other}
-use Rattle.relation.proofs.Meaning.{and-left, and-right}
-use Rattle.relation.proofs.SetLaws.{or-false, and-false}
+use Rattle.relation.proofs.Truth.{is-false, and-left, and-right}
 use Rattle.layout.specs.Chains.{among, follow, chain, met, fresh, each, allMet, onceEach, pushed, Marked, Followed}
 
 -- What a chain meets next, by cases.
@@ -69,14 +68,10 @@ pub record Going (limit : ℕ) (next : ℕ → ℕ) (l whole : List ℕ) (n x : 
   pub same : fresh limit l whole ≡ fresh limit seen (follow limit next n x)
   pub rest : pushed whole l ≡ pushed (follow limit next n x) seen
 
-pub going-start : (limit : ℕ) (next : ℕ → ℕ) (l : List ℕ) (n x : ℕ) (at : List ℕ) → Marked l at
-    → Going limit next l (follow limit next n x) n x at
-going-start limit next l n x at w = record { seen = l; marked = w; same = refl; rest = refl }
+pub going-start : (limit : ℕ) (next : ℕ → ℕ) (l : List ℕ) (x : ℕ) (at : List ℕ) → Marked l at → Going limit next l (chain limit next x) (limit + 1) x at
+going-start limit next l x at w = rw (add-one limit) (record { seen = l; marked = w; same = refl; rest = refl })
 
-pub going-begin : (limit : ℕ) (next : ℕ → ℕ) (l : List ℕ) (x : ℕ) (at : List ℕ) → Marked l at → Going limit next l (chain limit next x) (limit + 1) x at
-going-begin limit next l x at w = rw (add-one limit) (going-start limit next l (suc limit) x at w)
-
-module _ (limit : ℕ) (next : ℕ → ℕ) (l whole : List ℕ) (n x : ℕ) (at : List ℕ) (w : Going limit next l whole n x at) where
+module _ {limit : ℕ} {next : ℕ → ℕ} {l whole : List ℕ} {n x : ℕ} {at : List ℕ} (w : Going limit next l whole n x at) where
   pub going-done : follow limit next n x ≡ [] → Followed limit l whole true at
   unfolding fresh pushed
   going-done e =
@@ -127,7 +122,7 @@ count-begin limit next x =
     let all : suc limit ≡ limit + 1 - 0 = omega arith in
     record { most = omega arith; rest = omega (arith, ap (λ (k : ℕ). length (follow limit next k x)) all) }
 
-module _ (limit : ℕ) (next : ℕ → ℕ) (whole : List ℕ) (n x : ℕ) (w : Counted limit next whole n x) where
+module _ {limit : ℕ} {next : ℕ → ℕ} {whole : List ℕ} {n x : ℕ} (w : Counted limit next whole n x) where
   pub count-end : x ≡ 0 → n ≡ length whole
   count-end e = omega (arith, w .rest, ap length (ap (follow limit next (limit + 1 - n)) e ∙ follow-end limit next (limit + 1 - n)))
 
@@ -154,10 +149,6 @@ fresh-append limit seen [] ys = refl
 fresh-append limit seen (x ∷ xs) ys =
     ap (λ (b : Bool). (leb x limit && not (among x seen)) && b) (fresh-append limit (x ∷ seen) xs ys)
     ∙ sym (and-assoc (leb x limit && not (among x seen)) (fresh limit (x ∷ seen) xs) (fresh limit (pushed xs (x ∷ seen)) ys))
-  where
-    and-assoc : (a b c : Bool) → (a && b) && c ≡ a && (b && c)
-    and-assoc true b c = refl
-    and-assoc false b c = refl
 
 pub pushed-append : (xs ys l : List ℕ) → pushed (xs ++ ys) l ≡ pushed ys (pushed xs l)
 unfolding pushed
@@ -167,34 +158,14 @@ pushed-append (x ∷ xs) ys l = pushed-append xs ys (x ∷ l)
 pub among-pushed : (x : ℕ) (xs l : List ℕ) → among x (pushed xs l) ≡ among x xs || among x l
 unfolding pushed among
 among-pushed x [] l = refl
-among-pushed x (y ∷ xs) l = among-pushed x xs (y ∷ l) ∙ move (among x xs) (eqb x y) (among x l)
-  where
-    move : (a b c : Bool) → a || (b || c) ≡ (b || a) || c
-    move true true c = refl
-    move true false c = refl
-    move false b c = ap (λ (d : Bool). d || c) (sym (or-false b))
+among-pushed x (y ∷ xs) l =
+    among-pushed x xs (y ∷ l) ∙ sym (or-assoc (among x xs) (eqb x y) (among x l)) ∙ ap (λ (b : Bool). b || among x l) (or-comm (among x xs) (eqb x y))
 
 -- A test of every number from 1 to n.
 pub each-same : (n : ℕ) (p q : ℕ → Bool) → ((x : ℕ) → p x ≡ q x) → each n p ≡ each n q
 unfolding each
 each-same zero p q e = refl
 each-same (suc n) p q e = ap₂ _&&_ (each-same n p q e) (e (suc n))
-
-pub each-more : (n : ℕ) (p : ℕ → Bool) → each n p ≡ true → p (n + 1) ≡ true → each (n + 1) p ≡ true
-unfolding each
-each-more n p a b = rw (add-one n, each, a) (rw (add-one n) at b)
-
-pub each-fails : (n k : ℕ) (p : ℕ → Bool) → k < n → p (k + 1) ≡ false → each n p ≡ false
-unfolding each
-each-fails zero k p h e = absurd (omega arith)
-each-fails (suc n) k p h e =
-    elim (ℕ-discrete k n) [
-      | yes q ↦ ap (λ (b : Bool). each n p && b) (ap p (omega arith) ∙ e) ∙ and-false (each n p)
-      | no d ↦ ap (λ (b : Bool). b && p (suc n)) (each-fails n k p (omega (arith, d)) e)
-    ]
-
-pub each-done : (n k : ℕ) (p : ℕ → Bool) → k ≡ n → each k p ≡ true → true ≡ each n p
-each-done n k p e a = sym a ∙ ap (λ (i : ℕ). each i p) e
 
 pub each-at : (n : ℕ) (p : ℕ → Bool) → each n p ≡ true → (k : ℕ) → 1 ≤ k → k ≤ n → p k ≡ true
 unfolding each
@@ -205,73 +176,65 @@ each-at (suc n) p a k h g =
       | no d ↦ each-at n p (and-left (each n p) (p (suc n)) a) k h (omega (arith, d))
     ]
 
+-- Chains on which together nothing is met twice: so are the first of them, and each behind those before it.
+module _ (limit : ℕ) (next start : ℕ → ℕ) where
+  pub fresh-upto : (n j : ℕ) → j ≤ n → fresh limit [] (met limit next start n) ≡ true → fresh limit [] (met limit next start j) ≡ true
+  unfolding met
+  fresh-upto zero j h p = (let e : zero ≡ j = omega arith in subst (λ (k : ℕ). fresh limit [] (met limit next start k) ≡ true) e p)
+  fresh-upto (suc n) j h p =
+      elim (ℕ-discrete (suc n) j) [
+        | yes e ↦ subst (λ (k : ℕ). fresh limit [] (met limit next start k) ≡ true) e p
+        | no d ↦ fresh-upto n j (omega (arith, d)) (and-left _ _ (sym (fresh-append limit [] (met limit next start n) (chain limit next (start n))) ∙ p))
+      ]
+
+  pub fresh-behind : (n j : ℕ) → j < n → fresh limit [] (met limit next start n) ≡ true
+      → fresh limit (pushed (met limit next start j) []) (chain limit next (start j)) ≡ true
+  unfolding met
+  fresh-behind n j h p =
+      let both = sym (fresh-append limit [] (met limit next start j) (chain limit next (start j))) ∙ fresh-upto n (suc j) (omega arith) p in
+      and-right (fresh limit [] (met limit next start j)) _ both
+
 -- After j chains: all sound so far, and what they met is marked.
 pub record Walked (limit : ℕ) (next start : ℕ → ℕ) (j : ℕ) (marks : List ℕ) : Type 0 where
   pub sound : fresh limit [] (met limit next start j) ≡ true
   pub marked : Marked (pushed (met limit next start j) []) marks
 
-module _ (limit : ℕ) (next start : ℕ → ℕ) where
-  pub walked-none : Walked limit next start 0 (replicate 256 0)
-  unfolding met fresh pushed
-  walked-none = record { sound = refl; marked = marked-none }
+pub walked-none : (limit : ℕ) (next start : ℕ → ℕ) → Walked limit next start 0 (replicate 256 0)
+unfolding met fresh pushed
+walked-none limit next start = record { sound = refl; marked = marked-none }
 
-  -- The chain from x, which is start j.
-  from-start : (j x : ℕ) (l : List ℕ) (sound : Bool) (at : List ℕ) → x ≡ start j → Followed limit l (chain limit next x) sound at
-      → Followed limit l (chain limit next (start j)) sound at
-  from-start j x l sound at e f = subst (λ (y : ℕ). Followed limit l (chain limit next y) sound at) e f
+-- One chain more, from x, which is start j.
+module _ {limit : ℕ} {next start : ℕ → ℕ} {j x : ℕ} {marks : List ℕ} {sound : Bool} {at : List ℕ} (e : x ≡ start j) (w : Walked limit next start j marks)
+    (g : (l : List ℕ) → Marked l marks → Followed limit l (chain limit next x) sound at) where
+  followed : Followed limit (pushed (met limit next start j) []) (chain limit next (start j)) sound at
+  followed = subst (λ (y : ℕ). Followed limit (pushed (met limit next start j) []) (chain limit next y) sound at) e (g _ (w .marked))
 
-  -- one chain more
-  step : (j : ℕ) (marks : List ℕ) (sound : Bool) (at : List ℕ) → Walked limit next start j marks
-      → Followed limit (pushed (met limit next start j) []) (chain limit next (start j)) sound at
-      → fresh limit [] (met limit next start (j + 1)) ≡ sound
+  step : fresh limit [] (met limit next start (j + 1)) ≡ sound
   unfolding met
-  step j marks sound at w f =
-      rw (add-one j, met)
-      (fresh-append limit [] (met limit next start j) (chain limit next (start j))
-      ∙ ap₂ _&&_ (w .sound) (sym (f .answer)))
+  step = rw (add-one j, met) (fresh-append limit [] (met limit next start j) (chain limit next (start j)) ∙ ap₂ _&&_ (w .sound) (sym (followed .answer)))
 
-  pub walked-more : (j x : ℕ) (marks : List ℕ) (sound : Bool) (at : List ℕ) → x ≡ start j → Walked limit next start j marks
-      → ((l : List ℕ) → Marked l marks → Followed limit l (chain limit next x) sound at) → sound ≡ true
-      → Walked limit next start (j + 1) at
+  pub walked-more : sound ≡ true → Walked limit next start (j + 1) at
   unfolding met
-  walked-more j x marks sound at e w g p =
-      let f = from-start j x (pushed (met limit next start j) []) sound at e (g (pushed (met limit next start j) []) (w .marked)) in
+  walked-more p =
       record {
-        sound = step j marks sound at w f ∙ p;
-        marked = rw (add-one j, met) (rw (pushed-append (met limit next start j) (chain limit next (start j)) []) (f .marked p));
+        sound = step ∙ p;
+        marked = rw (add-one j, met) (rw (pushed-append (met limit next start j) (chain limit next (start j)) []) (followed .marked p));
       }
 
   -- an unsound chain leaves all unsound
-  pub unsound-on : (n j : ℕ) → j ≤ n → fresh limit [] (met limit next start j) ≡ false → fresh limit [] (met limit next start n) ≡ false
-  unfolding met
-  unsound-on zero j h p =
-      let e : j ≡ zero = omega arith in subst (λ (k : ℕ). fresh limit [] (met limit next start k) ≡ false) e p
-  unsound-on (suc n) j h p =
-      elim (ℕ-discrete j (suc n)) [
-        | yes e ↦ subst (λ (k : ℕ). fresh limit [] (met limit next start k) ≡ false) e p
-        | no d ↦ fresh-append limit [] (met limit next start n) (chain limit next (start n))
-            ∙ ap (λ (b : Bool). b && fresh limit (pushed (met limit next start n) []) (chain limit next (start n)))
-            (unsound-on n j (omega (arith, d)) p)
-      ]
-
-  pub walked-fails : (n j x : ℕ) (marks : List ℕ) (sound : Bool) (at : List ℕ) → x ≡ start j → j < n → Walked limit next start j marks
-      → ((l : List ℕ) → Marked l marks → Followed limit l (chain limit next x) sound at) → sound ≡ false
-      → false ≡ onceEach limit (met limit next start n)
+  pub walked-fails : {n : ℕ} → j < n → sound ≡ false → false ≡ onceEach limit (met limit next start n)
   unfolding onceEach
-  walked-fails n j x marks sound at e h w g p =
-      let f = from-start j x (pushed (met limit next start j) []) sound at e (g (pushed (met limit next start j) []) (w .marked)) in
-      sym (ap (λ (b : Bool). b && allMet limit (met limit next start n))
-      (unsound-on n (j + 1) (omega arith) (step j marks sound at w f ∙ p)))
+  walked-fails {n} h p =
+      let unsound = is-false (fresh limit [] (met limit next start n))
+      (λ q. false≢true (sym (step ∙ p) ∙ fresh-upto limit next start n (j + 1) (omega arith) q)) in
+      sym (ap (λ (b : Bool). b && allMet limit (met limit next start n)) unsound)
 
-  pub walked-all : (n k : ℕ) (marks : List ℕ) (b : Bool) → k ≡ n → Walked limit next start k marks
-      → ((l : List ℕ) → Marked l marks → b ≡ allMet limit l) → b ≡ onceEach limit (met limit next start n)
-  unfolding onceEach among
-  walked-all n k marks b e v f =
-      let w : Walked limit next start n marks = subst (λ (i : ℕ). Walked limit next start i marks) e v in
-      f (pushed (met limit next start n) []) (w .marked)
-      ∙ each-same limit (λ x. among x (pushed (met limit next start n) [])) (λ x. among x (met limit next start n))
-      (λ x. among-pushed x (met limit next start n) [] ∙ nil x)
-      ∙ ap (λ (c : Bool). c && allMet limit (met limit next start n)) (sym (w .sound))
-    where
-      nil : (x : ℕ) → among x (met limit next start n) || among x [] ≡ among x (met limit next start n)
-      nil x = or-false (among x (met limit next start n))
+pub walked-all : {limit : ℕ} {next start : ℕ → ℕ} {n k : ℕ} {marks : List ℕ} {b : Bool} → k ≡ n → Walked limit next start k marks
+    → ((l : List ℕ) → Marked l marks → b ≡ allMet limit l) → b ≡ onceEach limit (met limit next start n)
+unfolding onceEach among
+walked-all {limit} {next} {start} {n} {k} {marks} e v f =
+    let all = met limit next start n in
+    let w : Walked limit next start n marks = subst (λ (i : ℕ). Walked limit next start i marks) e v in
+    f (pushed all []) (w .marked)
+    ∙ each-same limit (λ x. among x (pushed all [])) (λ x. among x all) (λ x. among-pushed x all [] ∙ or-false (among x all))
+    ∙ ap (λ (c : Bool). c && allMet limit all) (sym (w .sound))

@@ -5,9 +5,10 @@ use mathlib.Core.List.{List}
 use mathlib.Core.Logic.{inl, inr}
 use Prim.Native.Nat.{ℕ, _+_, _-_, _<_, _≤_}
 use native.Mathlib.Omega.{arith}
-use borrow.Author.Tests.{le-leb, lt-leb, leb-true, ltb-true, eqb-true}
+use borrow.Author.Tests.{le-leb, lt-leb, leb-true, ltb-true, eq-eqb, ne-eqb, eqb-true}
+use borrow.Author.Needs.{needs}
 use lib.Dec.{leb, ltb, eqb}
-use Rattle.relation.proofs.Meaning.{and-left, and-right, or-either}
+use Rattle.relation.proofs.Truth.{and-left, and-right, or-either}
 use Rattle.models.specs.Recording.{Recording, event, ofClass}
 use Rattle.layout.specs.Layout.{byte, Side, bySide, mostEvents, mostLinks, mostInThread, events, eventByte, firstInitial, locations, Sized}
 use Rattle.layout.specs.Chains.{nextOf, nextEvent}
@@ -28,6 +29,9 @@ or-no a b s t p q e = e ∙ ap (λ (x : Bool). x || t) (sym q ∙ p)
 
 pub is-number : (k a b : ℕ) → a ≡ b → eqb a k ≡ eqb b k
 is-number k a b p = ap (λ (x : ℕ). eqb x k) p
+
+-- What `search` is handed where a function answers a definition test by test.
+pub ruleset tests = (needs, and-yes, and-no, or-yes, or-no, is-number, eq-eqb, ne-eqb, le-leb, lt-leb)
 
 -- A limit of either side is at most the larger, and the limits by name.
 by-side-most : (a b : ℕ) (s : Side) → a ≤ b → bySide a b s ≤ b
@@ -69,6 +73,14 @@ initial-yes f e h = and-yes true (ltb e (56 + locations f)) (leb 56 e) (ltb e (5
 pub initial-no : (f : List ℕ) (e : ℕ) → e < 56 → leb 56 e ≡ isInitial f e
 unfolding isInitial
 initial-no f e h = and-no (leb 56 e) (leb 56 e) (ltb e (56 + locations f)) refl (lt-leb 56 e h)
+
+pub initial-bounds : (f : List ℕ) (e : ℕ) → isInitial f e ≡ true → (56 ≤ e) × (e < 56 + locations f)
+unfolding isInitial
+initial-bounds f e p =
+    (leb-true 56 e (and-left (leb 56 e) (ltb e (56 + locations f)) p), ltb-true e (56 + locations f) (and-right (leb 56 e) (ltb e (56 + locations f)) p))
+
+pub initial-below : (f : List ℕ) (e : ℕ) → e < 56 → isInitial f e ≡ false
+initial-below f e h = sym (initial-no f e h) ∙ lt-leb 56 e h
 
 -- Fields, by the three cases of `recordOr`.
 module _ (f : List ℕ) (given recorded : ℕ → ℕ) (e : ℕ) where
@@ -114,10 +126,10 @@ location-recorded f e b h p = p ∙ same (isRecorded f e) refl
 
 -- Events are numbered below 64.
 pub event-small : (f : List ℕ) (e : ℕ) → Sized f → event (decode f) e ≡ true → e < 64
-unfolding event decode isInitial
+unfolding event decode
 event-small f e s p =
     elim (or-either (isInitial f e) (isRecorded f e) p) [
-      | inl q ↦ let h = ltb-true e (56 + locations f) (and-right (leb 56 e) (ltb e (56 + locations f)) q) in omega (arith, s .most-locations)
+      | inl q ↦ let (a, b) = initial-bounds f e q in omega (arith, s .most-locations)
       | inr q ↦ let (a, b) = recorded-bounds f e q in omega (arith, s .most-events)
     ]
 

@@ -2,3 +2,4 @@
 pub mod FieldLaws
 pub mod ChainLaws
 pub mod ChainFacts
+pub mod EachLaws

@@ -67,24 +67,15 @@ module _ (t : Text) (w : List ℕ) where
 
 -- A number in decimal, by how many digits it has.
 module _ (n : ℕ) where
-  as-digit : n < 10 → decimal n ≡ digit n ∷ []
-  as-digit h = decimal1 n h ∙ ap (λ (d : ℕ). digit d ∷ []) (omega arith)
-
-  as-digits2 : 10 ≤ n → n < 100 → decimal n ≡ digit (n / 10) ∷ digit (n % 10) ∷ []
-  as-digits2 g h = decimal2 n g h ∙ ap (λ (d : ℕ). digit d ∷ digit (n % 10) ∷ []) (omega arith)
-
-  as-digits3 : 100 ≤ n → n < 1000 → decimal n ≡ digit (n / 100) ∷ digit (n / 10 % 10) ∷ digit (n % 10) ∷ []
-  as-digits3 g h = decimal3 n g h ∙ ap (λ (d : ℕ). digit d ∷ digit (n / 10 % 10) ∷ digit (n % 10) ∷ []) (omega arith)
-
   pub put-decimal1 : {t r : Text} → n < 10 → Put t (digit n ∷ []) r → Put t (decimal n) r
-  put-decimal1 h p = put-as (sym (as-digit h)) p
+  put-decimal1 h p = put-as (sym (decimal1 n h ∙ ap (λ (d : ℕ). digit d ∷ []) (omega arith))) p
 
   pub put-decimal2 : {t u r : Text} → 10 ≤ n → n < 100 → Put t (digit (n / 10) ∷ []) u → Put u (digit (n % 10) ∷ []) r → Put t (decimal n) r
-  put-decimal2 g h p q = put-as (sym (as-digits2 g h)) (put-then p q)
+  put-decimal2 g h p q = put-as (sym (decimal2 n g h ∙ ap (λ (d : ℕ). digit d ∷ digit (n % 10) ∷ []) (omega arith))) (put-then p q)
 
   pub put-decimal3 : {t u v r : Text} → 100 ≤ n → n < 1000 → Put t (digit (n / 100) ∷ []) u → Put u (digit (n / 10 % 10) ∷ []) v
       → Put v (digit (n % 10) ∷ []) r → Put t (decimal n) r
-  put-decimal3 g h p q s = put-as (sym (as-digits3 g h)) (put-then (put-then p q) s)
+  put-decimal3 g h p q s = put-as (sym (decimal3 n g h ∙ ap (λ (d : ℕ). digit d ∷ digit (n / 10 % 10) ∷ digit (n % 10) ∷ []) (omega arith))) (put-then (put-then p q) s)
 
   decimal-short : n < 1000 → length (decimal n) ≤ 3
   decimal-short h =

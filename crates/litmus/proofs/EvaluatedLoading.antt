@@ -5,15 +5,16 @@ use mathlib.Core.Bool.{Bool, true, false, not, _&&_, false≢true}
 use mathlib.Core.List.{List, [], _∷_, List·Memᴰ}
 use Prim.Native.Nat.{ℕ, _<_}
 use native.Mathlib.Omega.{arith}
-use borrow.Author.Tests.{eqb-true, not-false}
+use native.Mathlib.Decide.{ℕ-discrete}
+use borrow.Author.Tests.{eqb-true, ne-eqb, not-false}
 use lib.Dec.{T, eqb}
 use lib.ListN.{getD}
 use Rattle.relation.specs.Rel.{Set, Rel, union, either, diagonal, some, image, compose, through, plus, inverse, optional, below, nodes}
-use Rattle.relation.proofs.Meaning.{Mem, and-left, and-right, and-both, some-sound, some-complete}
+use Rattle.relation.proofs.Meaning.{some-sound, some-complete, mem-below}
 use Rattle.models.specs.Recording.{Recording, read, write, access, exclusiveRead, coStep, event, ofClass, flagged, sameLocation}
 use Rattle.models.specs.Steps.{Plus, one, cons}
 use Rattle.models.specs.Graph.{base}
-use Rattle.models.proofs.Tests.{T-ext, some-intro, some-witness, below-listed, plus-steps, Tests, plus-tests}
+use Rattle.models.proofs.Tests.{some-intro, some-witness, plus-steps, Tests, plus-tests}
 use Rattle.models.proofs.MemberLaws.{step-cases, CoStep, linked, initially}
 use Rattle.models.specs.Rules.{Numbered, first}
 use Rattle.models.proofs.FirstLaws.{positive, testOf, first-fails}
@@ -21,11 +22,12 @@ use Rattle.layout.specs.Layout.{Side, sideOf, side, events, kindKnown, bySide, 
 use Rattle.layout.specs.Chains.{each, linksInto, among, follow, met, fresh, onceEach, nextOf, startOf, allOf}
 use Rattle.layout.specs.Decode.{isRecorded, isInitial, recordOr, fieldOr, decode}
 use Rattle.recording.specs.Causes.{readLegal, writeLegal, fenceMode, fenceLegal, legal, eventLegal, headerOver, sameLocations, rfLegal, coLegal, rmwLegal, fromRead, dataLegal, addrLegal, ctrlLegal, casdepLegal, linkLegal, linkSound, oneSource, linksSoundAt, pairedAt, tooShort, kindUnknown, overLimit, wrongLength, badEvent, tooLong, badThreads, longThread, badChains, badLink, coRing, unpaired, refusal}
-use Rattle.relation.proofs.Truth.{is-true, holds, is-false}
+use Rattle.relation.proofs.Truth.{is-true, holds, is-false, and-left, and-right, and-both, T-ext}
 use Rattle.layout.proofs.FieldLaws.{recorded-bounds, most-events-48}
 use Rattle.layout.proofs.ChainLaws.{each-at}
 use Rattle.recording.proofs.CauseLaws.{limits}
 use Rattle.recording.proofs.Accepted.{accepts, each-all}
+use Rattle.translation.proofs.LegalLinks.{one-source-by}
 use Rattle.litmus.proofs.Recorded.{eventList, recorded-listed}
 
 -- One or more steps, over two lists that hold all that r joins.
@@ -98,17 +100,15 @@ module _ (f : List ℕ) where
   module _ (few : events f < 64) where
     recorded-node : (e : ℕ) → T (decode f .recorded e) → List·Memᴰ e nodes
     unfolding decode
-    recorded-node e h = (let w = recorded-bounds f e (is-true (isRecorded f e) h) in below-listed 64 e (omega (arith, w .1)))
+    recorded-node e h = (let w = recorded-bounds f e (is-true (isRecorded f e) h) in mem-below 64 e (omega (arith, w .1)))
 
     next-from : (a b : ℕ) → T (decode f .next a b) → T (decode f .recorded a)
     unfolding decode
-    next-from a b h =
-        holds (isRecorded f a) (and-left (isRecorded f a) (isRecorded f b) (and-left (isRecorded f a && isRecorded f b) _ (is-true (decode f .next a b) h)))
+    next-from a b h = search (holds, is-true, and-left, and-right)
 
     next-to : (a b : ℕ) → T (decode f .next a b) → T (decode f .recorded b)
     unfolding decode
-    next-to a b h =
-        holds (isRecorded f b) (and-right (isRecorded f a) (isRecorded f b) (and-left (isRecorded f a && isRecorded f b) _ (is-true (decode f .next a b) h)))
+    next-to a b h = search (holds, is-true, and-left, and-right)
 
     po-same : base nodes (decode f) .po ≡ base records (decode f) .po
     unfolding base
@@ -125,49 +125,36 @@ module _ (f : List ℕ) where
         (linkLegal-by (decode f) (side f) t a b ∙ ap (λ (po : Rel). linkLegalBy (decode f) po (side f) t a b) po-same)
 
     -- A link of type 1 is a record of the chain.
-    link-in : (a b : ℕ) → decode f .link 1 a b ≡ true → (m : ℕ) × Mem m (linksInto f b) × (linkByte f m 1 ≡ 1) × (linkByte f m 2 ≡ a)
+    link-in : (a b : ℕ) → decode f .link 1 a b ≡ true → (m : ℕ) × List·Memᴰ m (linksInto f b) × (linkByte f m 1 ≡ 1) × (linkByte f m 2 ≡ a)
     unfolding decode
     link-in a b p =
-        let here : Set = λ m. eqb (linkByte f m 1) 1 && eqb (linkByte f m 2) a in
-        let w = some-sound (linksInto f b) here (and-right (isRecorded f b) (some (linksInto f b) here) p) in
-        let m = w .0 in (
-          m,
-          w .1,
-          eqb-true (linkByte f m 1) 1 (and-left (eqb (linkByte f m 1) 1) (eqb (linkByte f m 2) a) (w .2)),
-          eqb-true (linkByte f m 2) a (and-right (eqb (linkByte f m 1) 1) (eqb (linkByte f m 2) a) (w .2)),
-        )
+        let (m, i, e) = some-sound (linksInto f b) (λ m. eqb (linkByte f m 1) 1 && eqb (linkByte f m 2) a) (search and-right) in
+        (m, i, search (and-left, eqb-true), search (and-right, eqb-true))
 
     one-source : (b : ℕ) → oneSourceBy b ≡ true → oneSource (decode f) b ≡ true
-    unfolding oneSource oneSourceBy twoSources
-    one-source b q =
-        ap not (is-false (some nodes (λ a. some nodes (λ c. (decode f .link 1 a b && decode f .link 1 c b) && not (eqb a c)))) (λ p.
-        let x = some-sound nodes (λ a. some nodes (λ c. (decode f .link 1 a b && decode f .link 1 c b) && not (eqb a c))) p in
-        let y = some-sound nodes (λ c. (decode f .link 1 (x .0) b && decode f .link 1 c b) && not (eqb (x .0) c)) (x .2) in
-        two (x .0) (y .0) (y .2)))
-      where
-        two : (a c : ℕ) → (decode f .link 1 a b && decode f .link 1 c b) && not (eqb a c) ≡ true → ⊥
-        two a c p =
-            let ms = linksInto f b in
-            let both = and-left (decode f .link 1 a b && decode f .link 1 c b) (not (eqb a c)) p in
-            let (m, i, t, s) = link-in a b (and-left (decode f .link 1 a b) (decode f .link 1 c b) both) in
-            let (n, j, u, v) = link-in c b (and-right (decode f .link 1 a b) (decode f .link 1 c b) both) in
-            let found : twoSources m n ≡ true = rw (t, u, s, v) (and-right (decode f .link 1 a b && decode f .link 1 c b) (not (eqb a c)) p) in
-            false≢true (sym (ap not (some-complete ms (λ k. some ms (twoSources k)) m i (some-complete ms (twoSources m) n j found))) ∙ q)
+    unfolding oneSourceBy twoSources
+    one-source b q = one-source-by (decode f) b (λ a c p r. elim (ℕ-discrete a c) [
+      | yes e ↦ e
+      | no d ↦ (let ms = linksInto f b in
+          let (m, i, t, s) = link-in a b p in
+          let (n, j, u, v) = link-in c b r in
+          let found : twoSources m n ≡ true = rw (t, u, s, v) (ap not (ne-eqb a c d)) in
+          absurd (false≢true (sym (ap not (some-complete ms (λ k. some ms (twoSources k)) m i (some-complete ms (twoSources m) n j found))) ∙ q)))
+    ])
 
     links-sound : each (events f) linksSoundBy ≡ true → badLink f ≡ false
     unfolding badLink linksSoundAt linksSoundBy
     links-sound q = ap not (each-all (events f) (linksSoundAt f) (λ b h g.
         let at = each-at (events f) linksSoundBy q b h g in
         and-both (allOf (linksInto f b) (linkSound f b)) (oneSource (decode f) b)
-        (ap (allOf (linksInto f b)) (fun-ext (link-sound b)) ∙ and-left (allOf (linksInto f b) (linkSoundBy b)) (oneSourceBy b) at)
-        (one-source b (and-right (allOf (linksInto f b) (linkSoundBy b)) (oneSourceBy b) at))))
+        (ap (allOf (linksInto f b)) (fun-ext (link-sound b)) ∙ search and-left) (one-source b (search and-right))))
 
   co-target : (a b : ℕ) → T (coStep (decode f) a b) → isRecorded f b ≡ true
   unfolding decode
   co-target a b h = go (step-cases (decode f) a b h)
     where
       go : CoStep (decode f) a b → isRecorded f b ≡ true
-      go (linked l) = and-left (isRecorded f b) _ (is-true (decode f .link 2 a b) l)
+      go (linked l) = search (is-true, and-left)
       go (initially i c x l) = is-true (isRecorded f b) c
 
   co-last : {a b : ℕ} → Plus (λ x y. T (coStep (decode f) x y)) a b → isRecorded f b ≡ true
@@ -176,15 +163,15 @@ module _ (f : List ℕ) where
 
   between : {a b : ℕ} → isRecorded f a ≡ true → Plus (λ x y. T (coStep (decode f) x y)) a b → Plus (λ x y. T (coBetween x y)) a b
   unfolding coBetween
-  between q (one {a = a} {b = b} h) = one (holds _ (and-both (isRecorded f a) (coStep (decode f) a b) q (is-true _ h)))
-  between q (cons {a = a} {b = b} h p) = cons (holds _ (and-both (isRecorded f a) (coStep (decode f) a b) q (is-true _ h))) (between (co-target a b h) p)
+  between q (one {a = a} {b = b} h) = one {a = a} {b = b} (search (holds, and-both, is-true))
+  between q (cons {a = a} {b = b} h p) = cons {a = a} {b = b} (search (holds, and-both, is-true)) (between (co-target a b h) p)
 
   between-tests : Tests (decode f .recorded) coBetween (λ a b. T (coBetween a b))
   unfolding coBetween decode
   between-tests = record {
     to = λ i j h. h;
     from = λ i j h. h;
-    source = λ i j h. holds (isRecorded f i) (and-left (isRecorded f i) (coStep (decode f) i j) (is-true _ h));
+    source = λ i j h. search (holds, is-true, and-left);
     target = λ i j h. holds (isRecorded f j) (co-target i j (holds _ (and-right (isRecorded f i) (coStep (decode f) i j) (is-true _ h))));
   }
 

@@ -8,8 +8,9 @@ use native.Mathlib.Omega.{arith}
 use native.Mathlib.Decide.{ℕ-discrete}
 use borrow.Author.Tests.{leb-true}
 use lib.Dec.{T, eqb, leb, ltb}
+use lib.ListN.{getD}
 use Rattle.relation.specs.Rel.{nodes}
-use Rattle.relation.proofs.Meaning.{and-left, and-right}
+use Rattle.relation.proofs.Truth.{and-left, and-right}
 use Rattle.models.specs.Recording.{Recording, event}
 use Rattle.models.specs.Graph.{base, Within}
 use Rattle.models.specs.Rules.{Model, verdict}
@@ -21,7 +22,8 @@ use Rattle.layout.specs.Decode.{isRecorded, isInitial, recordOr, fieldOr, decod
 use Rattle.recording.specs.Causes.{refusal}
 use Rattle.recording.proofs.Loaded.{loaded-within}
 use Rattle.translation.specs.Contents.{Contents}
-use Rattle.translation.proofs.Says.{Event, initially, recorded, event-says, Bytes, bytes-say}
+use Rattle.translation.specs.Encode.{eventRecord}
+use Rattle.translation.proofs.Says.{Event, initially, recorded, event-says, Bytes, next-byte, bytes-say}
 
 -- The events of a file with n records and l locations: n down to 1, and 56 + l - 1 down to 56.
 unfoldable pub eventList : ℕ → ℕ → List ℕ
@@ -80,7 +82,7 @@ module _ (f : List ℕ) (c : Contents) (b : Bytes f c) where
 
   record-bounds : (e : ℕ) → hasRecord c e ≡ true → (1 ≤ e) × (e ≤ c .events)
   unfolding hasRecord
-  record-bounds e p = (leb-true 1 e (and-left (leb 1 e) (leb e (c .events)) p), leb-true e (c .events) (and-right (leb 1 e) (leb e (c .events)) p))
+  record-bounds e p = search (and-left, and-right, leb-true)
 
   said-same : (given read said : ℕ → ℕ) → ((e : ℕ) → 1 ≤ e → e ≤ c .events → read e ≡ said e) → recordOr f given read ≡ saidOr c given said
   unfolding recordOr saidOr
@@ -96,16 +98,20 @@ module _ (f : List ℕ) (c : Contents) (b : Bytes f c) where
   next-same x y =
       ap₂ (λ (s t : Bool). s && t && eqb (nextEvent f x) y) (record-same x) (record-same y)
       ∙ and-where (hasRecord c x && hasRecord c y) (eqb (nextEvent f x) y) (eqb (c .next x) y)
-      (λ p. (let w = record-bounds x (and-left (hasRecord c x) (hasRecord c y) p) in ap (λ (n : ℕ). eqb n y) (b .next x (w .0) (w .1))))
+      (λ p. (let w = record-bounds x (search and-left) in ap (λ (n : ℕ). eqb n y) (next-byte f c b x (w .0) (w .1))))
+
+  -- Byte k of each record.
+  byte-same : (k : ℕ) → k < 7 → (given : ℕ → ℕ) → recordOr f given (λ e. eventByte f e k) ≡ saidOr c given (λ e. getD (eventRecord c e) k 0)
+  byte-same k small given = said-same given (λ e. eventByte f e k) (λ e. getD (eventRecord c e) k 0) (b .byte k small)
 
   decoded : decode f ≡ recordingOf c
-  unfolding decode fieldOr recordingOf
+  unfolding decode fieldOr recordingOf eventRecord
   decoded = λ i. record {
-    class = said-same (λ e. 2) (λ e. eventByte f e 1) (c .class) (b .class) i;
-    mode = said-same (λ e. 0) (λ e. eventByte f e 2) (c .mode) (b .mode) i;
-    flag = said-same (λ e. 0) (λ e. eventByte f e 3) (c .flag) (b .flag) i;
-    location = said-same (λ e. e - 56) (λ e. eventByte f e 4) (c .location) (b .location) i;
-    value = λ e. said-same (λ e. 0) (λ e. eventByte f e 5) (c .low) (b .low) i e + 256 * said-same (λ e. 0) (λ e. eventByte f e 6) (c .high) (b .high) i e;
+    class = byte-same 1 (omega arith) (λ e. 2) i;
+    mode = byte-same 2 (omega arith) (λ e. 0) i;
+    flag = byte-same 3 (omega arith) (λ e. 0) i;
+    location = byte-same 4 (omega arith) (λ e. e - 56) i;
+    value = λ e. byte-same 5 (omega arith) (λ e. 0) i e + 256 * byte-same 6 (omega arith) (λ e. 0) i e;
     initial = λ e. initial-same e i;
     recorded = λ e. record-same e i;
     next = λ x y. next-same x y i;

@@ -4,7 +4,7 @@ use mathlib.Core.Bool.{Bool, true, false, not, _&&_, _||_}
 use mathlib.Core.List.{List, [], _∷_, List·Memᴰ}
 use mathlib.Core.Logic.{_⊎_, inl, inr, _↔_, _≢_}
 use mathlib.Core.Path.{_≡_, refl, subst, fun-ext}
-use Prim.Native.Nat.{ℕ, suc}
+use Prim.Native.Nat.{ℕ}
 use native.Mathlib.Omega.{arith}
 use lib.Dec.{T, eqb, eqb→eq, eqb-refl, T-not, not-T}
 use Rattle.relation.specs.Rel.{Rel, some, diagonal}
@@ -12,8 +12,9 @@ use Rattle.models.specs.Recording.{Recording, event, SetName, R, W, same
 use Rattle.models.specs.Steps.{stay, step}
 use Rattle.models.specs.Graph.{Graph, Base, graph, base, Within}
 use Rattle.models.specs.Term.{Term, loc, po, rf, co, rmw, «data», addr, ctrl, casdep, ⟨_⟩, ⟨codom_⟩, _⨾_, _∪_, _∩_, _∖_, opt, _⁻¹, _⁺, ⟦_⟧, eval}
-use Rattle.models.specs.Rules.{Model, broken-pair, Rule1, Rule2, Rule3, Rule4, Rule5, Allowed, Verdict, allowed, broken1, broken2, broken3, broken4, broken5, first, unread, unordered, anywhere, failures, verdict}
-use Rattle.models.proofs.Tests.{and-intro, and-left, and-right, or-left, or-right, or-cases, T-cases, T-ext, some-intro, some-witness, Tests, either-tests, both-tests, minus-tests, inverse-tests, identity-tests, codomain-tests, compose-tests, optional-tests, plus-tests}
+use Rattle.models.specs.Rules.{Model, broken-pair, Rule1, Rule2, Rule3, Rule4, Rule5, Allowed, Verdict, allowed, broken1, broken2, broken3, broken4, broken5, Numbered, first, unread, unordered, anywhere, failures, verdict}
+use Rattle.relation.proofs.Truth.{T-and, T-and-left, T-and-right, T-or-left, T-or-right, T-or, T-cases, T-ext}
+use Rattle.models.proofs.Tests.{some-intro, some-witness, Tests, either-tests, both-tests, minus-tests, inverse-tests, identity-tests, codomain-tests, compose-tests, optional-tests, plus-tests}
 use Rattle.models.proofs.MemberLaws.{initial-event, recorded-event, member-event, access-event, same-first, same-second, CoStep, linked, initially, step-cases}
 
 -- Tests and a graph that agree on what a graph consists of.
@@ -31,9 +32,6 @@ pub record Agrees (es : List ℕ) (B : Base) (G : Graph ℕ) : Type 0 where
   pub addr : Tests (B .E) (B .addr) (G .addr)
   pub ctrl : Tests (B .E) (B .ctrl) (G .ctrl)
   pub casdep : Tests (B .E) (B .casdep) (G .casdep)
-
-nonzero : (n : ℕ) → ¬ (suc n ≡ 0)
-nonzero n e = omega arith
 
 -- b passes exactly where P fails.
 abbrev pub Refutes : Bool → Type 0 → Type 0
@@ -65,17 +63,17 @@ same-verdict es fs B C M f g =
     let p₅ = same-test _ _ (f .rule5) (g .rule5) in
     λ i. first ((1, p₁ i) ∷ (2, p₂ i) ∷ (3, p₃ i) ∷ (4, p₄ i) ∷ (5, p₅ i) ∷ [])
 
-judged : {E : Type 0} (M : Model) (G : Graph E) (b₁ b₂ b₃ b₄ b₅ : Bool)
-    → Refutes b₁ (Rule1 G) → Refutes b₂ (Rule2 G) → Refutes b₃ (Rule3 M G) → Refutes b₄ (Rule4 G) → Refutes b₅ (Rule5 M G)
-    → Verdict M G (first ((1, b₁) ∷ (2, b₂) ∷ (3, b₃) ∷ (4, b₄) ∷ (5, b₅) ∷ []))
-unfolding first
-judged M G true b₂ b₃ b₄ b₅ r₁ r₂ r₃ r₄ r₅ = broken1 (r₁ .0 tt)
-judged M G false true b₃ b₄ b₅ r₁ r₂ r₃ r₄ r₅ = broken2 (r₁ .1 (λ h. h)) (r₂ .0 tt)
-judged M G false false true b₄ b₅ r₁ r₂ r₃ r₄ r₅ = broken3 (r₁ .1 (λ h. h)) (r₂ .1 (λ h. h)) (r₃ .0 tt)
-judged M G false false false true b₅ r₁ r₂ r₃ r₄ r₅ = broken4 (r₁ .1 (λ h. h)) (r₂ .1 (λ h. h)) (r₃ .1 (λ h. h)) (r₄ .0 tt)
-judged M G false false false false true r₁ r₂ r₃ r₄ r₅ = broken5 (r₁ .1 (λ h. h)) (r₂ .1 (λ h. h)) (r₃ .1 (λ h. h)) (r₄ .1 (λ h. h)) (r₅ .0 tt)
-judged M G false false false false false r₁ r₂ r₃ r₄ r₅ =
-    allowed (record { rule1 = r₁ .1 (λ h. h); rule2 = r₂ .1 (λ h. h); rule3 = r₃ .1 (λ h. h); rule4 = r₄ .1 (λ h. h); rule5 = r₅ .1 (λ h. h) })
+-- The verdict, rule by rule: the first rule whose test passes is broken.
+module _ {E : Type 0} (M : Model) (G : Graph E) where
+  judged : (n : ℕ) (b : Bool) (rest : List Numbered) {P : Type 0} → Refutes b P → (¬ P → Verdict M G n) → (P → Verdict M G (first rest))
+      → Verdict M G (first ((n, b) ∷ rest))
+  unfolding first
+  judged n true rest r broken next = broken (r .0 tt)
+  judged n false rest r broken next = next (r .1 (λ h. h))
+
+  none-broken : Allowed M G → Verdict M G (first [])
+  unfolding first
+  none-broken a = allowed a
 
 module _ (es : List ℕ) (B : Base) (G : Graph ℕ) (g : Agrees es B G) where
   pub tests : (t : Term) → Tests (B .E) (eval es t B) (⟦ t ⟧ G)
@@ -89,14 +87,14 @@ module _ (es : List ℕ) (B : Base) (G : Graph ℕ) (g : Agrees es B G) where
   tests addr = g .addr
   tests ctrl = g .ctrl
   tests casdep = g .casdep
-  tests ⟨ s ⟩ = identity-tests es (B .E) (g .listed) (B .set s) (G .set s) (λ e. g .sets s e .0) (λ e. g .sets s e .1) (g .set-events s)
+  tests ⟨ s ⟩ = identity-tests (B .set s) (G .set s) (λ e. g .sets s e .0) (λ e. g .sets s e .1) (g .set-events s)
   tests ⟨codom r ⟩ = codomain-tests es (B .E) (g .listed) (tests r)
   tests (r ⨾ s) = compose-tests es (B .E) (g .listed) (tests r) (tests s)
-  tests (r ∪ s) = either-tests es (B .E) (g .listed) (tests r) (tests s)
-  tests (r ∩ s) = both-tests es (B .E) (g .listed) (tests r) (tests s)
-  tests (r ∖ s) = minus-tests es (B .E) (g .listed) (tests r) (tests s)
-  tests (opt r) = optional-tests es (B .E) (g .listed) (G .E) (λ e. g .events e .0) (λ e. g .events e .1) (tests r)
-  tests (r ⁻¹) = inverse-tests es (B .E) (g .listed) (tests r)
+  tests (r ∪ s) = either-tests (tests r) (tests s)
+  tests (r ∩ s) = both-tests (tests r) (tests s)
+  tests (r ∖ s) = minus-tests (tests r) (tests s)
+  tests (opt r) = optional-tests (G .E) (λ e. g .events e .0) (λ e. g .events e .1) (tests r)
+  tests (r ⁻¹) = inverse-tests (tests r)
   tests (r ⁺) = plus-tests es (B .E) (g .listed) (tests r)
 
   -- Every term is decidable between any two numbers.
@@ -107,7 +105,7 @@ module _ (es : List ℕ) (B : Base) (G : Graph ℕ) (g : Agrees es B G) where
   pub eval-same : (t u : Term) → ((i j : ℕ) → ⟦ t ⟧ G i j → ⟦ u ⟧ G i j) → ((i j : ℕ) → ⟦ u ⟧ G i j → ⟦ t ⟧ G i j) → eval es t B ≡ eval es u B
   eval-same t u f h = fun-ext λ i. fun-ext λ j. T-ext _ _ (λ k. tests u .from i j (f i j (tests t .to i j k))) (λ k. tests t .from i j (h i j (tests u .to i j k)))
 
-  -- r ; s? is r or r ; s, and r? ; s is s or r ; s.
+  -- r ; s? is r or r ; s.
   pub optional-last : (r s : Term) → eval es (r ⨾ opt s) B ≡ eval es (r ∪ r ⨾ s) B
   optional-last r s = eval-same (r ⨾ opt s) (r ∪ r ⨾ s) to from
     where
@@ -119,17 +117,6 @@ module _ (es : List ℕ) (B : Base) (G : Graph ℕ) (g : Agrees es B G) where
       from i j (inl h) = (j, h, stay (g .events j .0 (tests r .target i j h)))
       from i j (inr (k, h, l)) = (k, h, step l)
 
-  pub optional-first : (r s : Term) → eval es (opt r ⨾ s) B ≡ eval es (s ∪ r ⨾ s) B
-  optional-first r s = eval-same (opt r ⨾ s) (s ∪ r ⨾ s) to from
-    where
-      to : (i j : ℕ) → ⟦ opt r ⨾ s ⟧ G i j → ⟦ s ∪ r ⨾ s ⟧ G i j
-      to i j (k, stay e, h) = inl h
-      to i j (k, step l, h) = inr (k, l, h)
-
-      from : (i j : ℕ) → ⟦ s ∪ r ⨾ s ⟧ G i j → ⟦ opt r ⨾ s ⟧ G i j
-      from i j (inl h) = (i, stay (g .events i .0 (tests s .source i j h)), h)
-      from i j (inr (k, l, h)) = (k, step l, h)
-
   -- Each test of a rule passes exactly where the rule fails.
   unread-found : T (some es (unread es B)) → ¬ Rule1 G
   unfolding unread
@@ -137,8 +124,8 @@ module _ (es : List ℕ) (B : Base) (G : Graph ℕ) (g : Agrees es B G) where
       let x = some-witness es (unread es B) h in
       let r = x .0 in
       let found : Bool = some es (λ w. B .rf w r) in
-      let w = all r (g .sets R r .0 (and-left (B .set R r) (not found) (x .1))) in
-      T-not found (and-right (B .set R r) (not found) (x .1))
+      let w = all r (g .sets R r .0 (T-and-left (B .set R r) (not found) (x .1))) in
+      T-not found (T-and-right (B .set R r) (not found) (x .1))
       (some-intro es (λ w. B .rf w r) (g .listed (w .0) (g .rf .source (w .0) r (w .1))) (g .rf .from (w .0) r (w .1)))
 
   unread-none : ¬ T (some es (unread es B)) → Rule1 G
@@ -147,7 +134,7 @@ module _ (es : List ℕ) (B : Base) (G : Graph ℕ) (g : Agrees es B G) where
       let found : Bool = some es (λ w. B .rf w r) in
       elim (T-cases found) [
         | inl k ↦ (let w = some-witness es (λ w. B .rf w r) k in (w .0, g .rf .to (w .0) r (w .1)))
-        | inr k ↦ absurd (n (some-intro es (unread es B) (g .listed r (g .set-events R r h)) (and-intro (B .set R r) (not found) (g .sets R r .1 h) (not-T found k))))
+        | inr k ↦ absurd (n (some-intro es (unread es B) (g .listed r (g .set-events R r h)) (T-and (B .set R r) (not found) (g .sets R r .1 h) (not-T found k))))
       ]
 
   anywhere-found : (r : Rel) → T (anywhere es r) → (a b : ℕ) × T (r a b)
@@ -170,22 +157,22 @@ module _ (es : List ℕ) (B : Base) (G : Graph ℕ) (g : Agrees es B G) where
 
   writes-to : (a b : ℕ) → T (writes a b) → G .set W a × G .set W b × G .loc a b
   writes-to a b h =
-      let p = and-left (B .set W a && B .set W b) (B .loc a b) h in
-      (g .sets W a .0 (and-left (B .set W a) (B .set W b) p), g .sets W b .0 (and-right (B .set W a) (B .set W b) p), g .loc .to a b (and-right (B .set W a && B .set W b) (B .loc a b) h))
+      let p = T-and-left (B .set W a && B .set W b) (B .loc a b) h in
+      (g .sets W a .0 (T-and-left (B .set W a) (B .set W b) p), g .sets W b .0 (T-and-right (B .set W a) (B .set W b) p), g .loc .to a b (T-and-right (B .set W a && B .set W b) (B .loc a b) h))
 
   writes-from : (a b : ℕ) → G .set W a → G .set W b → G .loc a b → T (writes a b)
-  writes-from a b p q l = and-intro (B .set W a && B .set W b) (B .loc a b) (and-intro (B .set W a) (B .set W b) (g .sets W a .1 p) (g .sets W b .1 q)) (g .loc .from a b l)
+  writes-from a b p q l = T-and (B .set W a && B .set W b) (B .loc a b) (T-and (B .set W a) (B .set W b) (g .sets W a .1 p) (g .sets W b .1 q)) (g .loc .from a b l)
 
   ordered-to : (a b : ℕ) → a ≢ b → T (ordered a b) → G .co a b ⊎ G .co b a
-  ordered-to a b d h = elim (or-cases (eqb a b || B .co a b) (B .co b a) h) [
-    | inl k ↦ elim (or-cases (eqb a b) (B .co a b) k) [ inl e ↦ absurd (d (eqb→eq a b e)) | inr c ↦ inl (g .co .to a b c) ]
+  ordered-to a b d h = elim (T-or (eqb a b || B .co a b) (B .co b a) h) [
+    | inl k ↦ elim (T-or (eqb a b) (B .co a b) k) [ inl e ↦ absurd (d (eqb→eq a b e)) | inr c ↦ inl (g .co .to a b c) ]
     | inr k ↦ inr (g .co .to b a k)
   ]
 
   ordered-from : (a b : ℕ) → (a ≡ b) ⊎ G .co a b ⊎ G .co b a → T (ordered a b)
-  ordered-from a b (inl e) = or-left (eqb a b || B .co a b) (B .co b a) (or-left (eqb a b) (B .co a b) (subst (λ c. T (eqb a c)) e (eqb-refl a)))
-  ordered-from a b (inr (inl c)) = or-left (eqb a b || B .co a b) (B .co b a) (or-right (eqb a b) (B .co a b) (g .co .from a b c))
-  ordered-from a b (inr (inr c)) = or-right (eqb a b || B .co a b) (B .co b a) (g .co .from b a c)
+  ordered-from a b (inl e) = T-or-left (eqb a b || B .co a b) (B .co b a) (T-or-left (eqb a b) (B .co a b) (subst (λ c. T (eqb a c)) e (eqb-refl a)))
+  ordered-from a b (inr (inl c)) = T-or-left (eqb a b || B .co a b) (B .co b a) (T-or-right (eqb a b) (B .co a b) (g .co .from a b c))
+  ordered-from a b (inr (inr c)) = T-or-right (eqb a b || B .co a b) (B .co b a) (g .co .from b a c)
 
   unordered-found : T (anywhere es (unordered es B)) → ¬ Rule2 G
   unfolding unordered
@@ -193,61 +180,58 @@ module _ (es : List ℕ) (B : Base) (G : Graph ℕ) (g : Agrees es B G) where
       let x = anywhere-found (unordered es B) h in
       let a = x .0 in
       let b = x .1 in
-      let w = writes-to a b (and-left (writes a b) (not (ordered a b)) (x .2)) in
-      let n : ¬ T (ordered a b) = T-not (ordered a b) (and-right (writes a b) (not (ordered a b)) (x .2)) in
+      let w = writes-to a b (T-and-left (writes a b) (not (ordered a b)) (x .2)) in
+      let n : ¬ T (ordered a b) = T-not (ordered a b) (T-and-right (writes a b) (not (ordered a b)) (x .2)) in
       n (ordered-from a b (inr (total a b (w .0) (w .1) (w .2) (λ e. n (ordered-from a b (inl e))))))
 
   unordered-none : ¬ T (anywhere es (unordered es B)) → Rule2 G
   unfolding unordered
   unordered-none n a b p q l d = elim (T-cases (ordered a b)) [
     | inl k ↦ ordered-to a b d k
-    | inr k ↦ absurd (anywhere-none (unordered es B) n a b (g .set-events W a p) (g .set-events W b q) (and-intro (writes a b) (not (ordered a b)) (writes-from a b p q l) (not-T (ordered a b) k)))
+    | inr k ↦ absurd (anywhere-none (unordered es B) n a b (g .set-events W a p) (g .set-events W b q) (T-and (writes a b) (not (ordered a b)) (writes-from a b p q l) (not-T (ordered a b) k)))
   ]
 
   -- A term that relates an event to itself, or two events.
-  loop-found : (t : Term) → T (some es (diagonal (eval es t B))) → ¬ ((a : ℕ) → ¬ ⟦ t ⟧ G a a)
-  unfolding diagonal
-  loop-found t h n = (let x = some-witness es (diagonal (eval es t B)) h in n (x .0) (tests t .to (x .0) (x .0) (x .1)))
-
-  loop-none : (t : Term) → ¬ T (some es (diagonal (eval es t B))) → (a : ℕ) → ¬ ⟦ t ⟧ G a a
-  unfolding diagonal
-  loop-none t n a h = n (some-intro es (diagonal (eval es t B)) (g .listed a (tests t .source a a h)) (tests t .from a a h))
-
-  edge-found : (t : Term) → T (anywhere es (eval es t B)) → ¬ ((a b : ℕ) → ¬ ⟦ t ⟧ G a b)
-  edge-found t h n = (let x = anywhere-found (eval es t B) h in n (x .0) (x .1) (tests t .to (x .0) (x .1) (x .2)))
-
-  edge-none : (t : Term) → ¬ T (anywhere es (eval es t B)) → (a b : ℕ) → ¬ ⟦ t ⟧ G a b
-  edge-none t n a b h = anywhere-none (eval es t B) n a b (tests t .source a b h) (tests t .target a b h) (tests t .from a b h)
-
-  refutes-1 : Refutes (some es (unread es B)) (Rule1 G)
-  refutes-1 = (unread-found, unread-none)
-
-  refutes-2 : Refutes (anywhere es (unordered es B)) (Rule2 G)
-  refutes-2 = (unordered-found, unordered-none)
-
   refutes-loop : (t : Term) → Refutes (some es (diagonal (eval es t B))) ((a : ℕ) → ¬ ⟦ t ⟧ G a a)
-  refutes-loop t = (loop-found t, loop-none t)
+  unfolding diagonal
+  refutes-loop t = (
+    λ h n. (let x = some-witness es (diagonal (eval es t B)) h in n (x .0) (tests t .to (x .0) (x .0) (x .1))),
+    λ n a h. n (some-intro es (diagonal (eval es t B)) (g .listed a (tests t .source a a h)) (tests t .from a a h)),
+  )
 
-  refutes-4 : Refutes (anywhere es (eval es broken-pair B)) (Rule4 G)
-  refutes-4 = (edge-found broken-pair, edge-none broken-pair)
+  refutes-edge : (t : Term) → Refutes (anywhere es (eval es t B)) ((a b : ℕ) → ¬ ⟦ t ⟧ G a b)
+  refutes-edge t = (
+    λ h n. (let x = anywhere-found (eval es t B) h in n (x .0) (x .1) (tests t .to (x .0) (x .1) (x .2))),
+    λ n a b h. anywhere-none (eval es t B) n a b (tests t .source a b h) (tests t .target a b h) (tests t .from a b h),
+  )
 
   -- Each test of a model's rules passes exactly where the rule fails.
   pub refutation : (M : Model) → Refutation es B M G
-  refutation M = record { rule1 = refutes-1; rule2 = refutes-2; rule3 = refutes-loop (M .coherent); rule4 = refutes-4; rule5 = refutes-loop (M .order ⁺) }
+  refutation M = record {
+    rule1 = (unread-found, unread-none);
+    rule2 = (unordered-found, unordered-none);
+    rule3 = refutes-loop (M .coherent);
+    rule4 = refutes-edge broken-pair;
+    rule5 = refutes-loop (M .order ⁺);
+  }
 
   -- The computed verdict is the verdict.
   pub verdict-holds : (M : Model) → Verdict M G (verdict es B M)
   unfolding verdict failures
-  verdict-holds M = judged M G _ _ _ _ _ refutes-1 refutes-2 (refutes-loop (M .coherent)) refutes-4 (refutes-loop (M .order ⁺))
+  verdict-holds M =
+      let r = refutation M in
+      judged M G 1 _ _ (r .rule1) broken1 λ p₁. judged M G 2 _ _ (r .rule2) (broken2 p₁) λ p₂. judged M G 3 _ _ (r .rule3) (broken3 p₁ p₂) λ p₃.
+      judged M G 4 _ _ (r .rule4) (broken4 p₁ p₂ p₃) λ p₄. judged M G 5 _ _ (r .rule5) (broken5 p₁ p₂ p₃ p₄) λ p₅.
+      none-broken M G (record { rule1 = p₁; rule2 = p₂; rule3 = p₃; rule4 = p₄; rule5 = p₅ })
 
 -- Verdict 0 is: allowed.
 pub allowed-exactly : {E : Type 0} {M : Model} {G : Graph E} {n : ℕ} → Verdict M G n → (n ≡ 0) ↔ Allowed M G
 allowed-exactly (allowed a) = (λ e. a, λ b. refl)
-allowed-exactly (broken1 x) = (λ e. absurd (nonzero 0 e), λ b. absurd (x (b .rule1)))
-allowed-exactly (broken2 p x) = (λ e. absurd (nonzero 1 e), λ b. absurd (x (b .rule2)))
-allowed-exactly (broken3 p q x) = (λ e. absurd (nonzero 2 e), λ b. absurd (x (b .rule3)))
-allowed-exactly (broken4 p q s x) = (λ e. absurd (nonzero 3 e), λ b. absurd (x (b .rule4)))
-allowed-exactly (broken5 p q s t x) = (λ e. absurd (nonzero 4 e), λ b. absurd (x (b .rule5)))
+allowed-exactly (broken1 x) = (λ e. absurd (omega (arith, e)), λ b. absurd (x (b .rule1)))
+allowed-exactly (broken2 p x) = (λ e. absurd (omega (arith, e)), λ b. absurd (x (b .rule2)))
+allowed-exactly (broken3 p q x) = (λ e. absurd (omega (arith, e)), λ b. absurd (x (b .rule3)))
+allowed-exactly (broken4 p q s x) = (λ e. absurd (omega (arith, e)), λ b. absurd (x (b .rule4)))
+allowed-exactly (broken5 p q s t x) = (λ e. absurd (omega (arith, e)), λ b. absurd (x (b .rule5)))
 
 -- The tests and the graph of a recording agree.
 module _ (es : List ℕ) (r : Recording ℕ) (w : Within es r) where
@@ -258,24 +242,18 @@ module _ (es : List ℕ) (r : Recording ℕ) (w : Within es r) where
   link-tests : (t : ℕ) → Tests (event r) (r .link t) (λ a b. T (r .link t a b))
   link-tests t = itself (r .link t) (w .link-source t) (w .link-target t)
 
-  location-source : (a b : ℕ) → T (sameLocation r a b) → T (event r a)
-  location-source a b h = access-event r a (same-first r a b h)
-
-  location-target : (a b : ℕ) → T (sameLocation r a b) → T (event r b)
-  location-target a b h = access-event r b (same-second r a b h)
-
   initial-tests : Tests (event r) (λ a b. r .initial a && r .recorded b) (λ a b. T (r .initial a) × T (r .recorded b))
   unfolding event
   initial-tests = record {
-    to = λ i j h. (and-left (r .initial i) (r .recorded j) h, and-right (r .initial i) (r .recorded j) h);
-    from = λ i j h. and-intro (r .initial i) (r .recorded j) (h .0) (h .1);
-    source = λ i j h. or-left (r .initial i) (r .recorded i) (h .0);
-    target = λ i j h. or-right (r .initial j) (r .recorded j) (h .1);
+    to = λ i j h. (T-and-left (r .initial i) (r .recorded j) h, T-and-right (r .initial i) (r .recorded j) h);
+    from = λ i j h. T-and (r .initial i) (r .recorded j) (h .0) (h .1);
+    source = λ i j h. T-or-left (r .initial i) (r .recorded i) (h .0);
+    target = λ i j h. T-or-right (r .initial j) (r .recorded j) (h .1);
   }
 
   po-tests : Tests (event r) (base es r .po) (graph r .po)
   unfolding base
-  po-tests = either-tests es (event r) (w .listed) initial-tests (plus-tests es (event r) (w .listed) (itself (r .next) (w .next-source) (w .next-target)))
+  po-tests = either-tests initial-tests (plus-tests es (event r) (w .listed) (itself (r .next) (w .next-source) (w .next-target)))
 
   step-source : (a b : ℕ) → CoStep r a b → T (event r a)
   step-source a b (linked h) = w .link-source 2 a b h
@@ -295,14 +273,14 @@ module _ (es : List ℕ) (r : Recording ℕ) (w : Within es r) where
     events = λ e. (λ h. h, λ h. h);
     sets = λ s e. (λ h. h, λ h. h);
     set-events = member-event r;
-    loc = itself (sameLocation r) location-source location-target;
+    loc = itself (sameLocation r) (λ a b h. access-event r a (same-first r a b h)) (λ a b h. access-event r b (same-second r a b h));
     po = po-tests;
     rf = link-tests 1;
     co = plus-tests es (event r) (w .listed) step-tests;
     rmw = link-tests 3;
     «data» = link-tests 4;
     addr = link-tests 5;
-    ctrl = compose-tests es (event r) (w .listed) (link-tests 6) (optional-tests es (event r) (w .listed) (λ e. T (event r e)) (λ e h. h) (λ e h. h) po-tests);
+    ctrl = compose-tests es (event r) (w .listed) (link-tests 6) (optional-tests (λ e. T (event r e)) (λ e h. h) (λ e h. h) po-tests);
     casdep = link-tests 7;
   }
 
@@ -317,12 +295,7 @@ module _ (es : List ℕ) (r : Recording ℕ) (w : Within es r) where
   pub recording-allowed : (M : Model) → (verdict es (base es r) M ≡ 0) ↔ Allowed M (graph r)
   recording-allowed M = allowed-exactly (recording-verdict M)
 
--- Over any two lists that hold all events a term has one test, and a model one verdict.
+-- Over any two lists that hold all events a model has one verdict.
 module _ (es fs : List ℕ) (r : Recording ℕ) (v : Within es r) (w : Within fs r) where
-  pub eval-relist : (t : Term) → eval es t (base es r) ≡ eval fs t (base fs r)
-  eval-relist t = fun-ext λ i. fun-ext λ j. T-ext _ _
-      (λ h. tests fs _ _ (agrees fs r w) t .from i j (tests es _ _ (agrees es r v) t .to i j h))
-      (λ h. tests es _ _ (agrees es r v) t .from i j (tests fs _ _ (agrees fs r w) t .to i j h))
-
   pub verdict-relist : (M : Model) → verdict es (base es r) M ≡ verdict fs (base fs r) M
   verdict-relist M = same-verdict es fs _ _ M (refutation es _ _ (agrees es r v) M) (refutation fs _ _ (agrees fs r w) M)

@@ -101,8 +101,8 @@ module _ {E : Type 0} (A : Graph E) where
       external {a} {b} h n i k p = elim (f .po-comparable p k i) [
         | inl l ↦ n l
         | inr e ↦ elim e [
-          | inl q ↦ no-com-ring A f (m .rule3) (one (subst (λ x. Com A x b) q h))
-          | inr l ↦ no-po-com A f (m .rule3) l (one h)
+          | inl q ↦ no-com-ring f (m .rule3) (one (subst (λ x. Com A x b) q h))
+          | inr l ↦ no-po-com f (m .rule3) l (one h)
         ]
       ]
 
@@ -117,7 +117,7 @@ module _ {E : Type 0} (A : Graph E) where
       ob-inner (ob-data-coi h o) i = inl (one (ob-data-coi h (weak-trans coi-trans o (step (after-write (weak-target (f .data-write h) o) i)))))
       ob-inner (ob-ctrl h w) i = inl (one (ob-ctrl (f .ctrl-closed h (inner-po i)) (inner-write i)))
       ob-inner {a} {b} {c} (ob-rmw h) i =
-          let k = rmw-fr A f (m .rule3) (m .rule2) (m .rule1) h in
+          let k = rmw-fr f (m .rule3) (m .rule2) (m .rule1) h in
           inr (fri (k .1) (f .co-trans (k .2) (after-write (f .rmw-write h) i .0)) (f .po-trans a b c (f .rmw-po h) (inner-po i)))
       ob-inner (ob-pair x h p q) i = inl (cons (ob-pair x h p q) (one (ob-acquire q (inner-po i))))
       ob-inner {c = d} (ob-sy {b = b} {c = c} h s k) i = inl (one (ob-sy h s (f .po-trans b c d k (inner-po i))))
@@ -164,60 +164,57 @@ module _ {E : Type 0} (A : Graph E) where
       no-base-ring p = no-path-ring (paths p)
 
     -- Barriers. A step of ob starts at an access or lies in po; it ends in an access, or lies in po and goes on along it.
-    abbrev Access : E → Type 0
-    Access a = A .set R a ⊎ A .set W a
+    data Access (a : E) : Type 0 where
+      reads : A .set R a → Access a
+      writes : A .set W a → Access a
 
     access-fence : {a : E} → Access a → A .set F a → ⊥
-    access-fence (inl r) x = f .read-fence r x
-    access-fence (inr w) x = f .write-fence w x
+    access-fence (reads r) x = f .read-fence r x
+    access-fence (writes w) x = f .write-fence w x
 
     ob-starts : {a b : E} → Ob a b → Access a ⊎ A .po a b
-    ob-starts (ob-rfe h n) = inl (inr (f .rf-write h))
-    ob-starts (ob-fre h k n) = inl (inl (f .rf-read h))
-    ob-starts (ob-coe h n) = inl (inr (f .co-source h))
-    ob-starts (ob-addr h) = inl (inl (f .addr-read h))
-    ob-starts (ob-addr-po h k w) = inl (inl (f .addr-read h))
-    ob-starts (ob-data-rfi h k i) = inl (inl (f .data-read h))
-    ob-starts (ob-data-coi h o) = inl (inl (f .data-read h))
-    ob-starts (ob-ctrl h w) = inl (inl (f .ctrl-read h))
+    ob-starts (ob-rfe h n) = inl (writes (f .rf-write h))
+    ob-starts (ob-fre h k n) = inl (reads (f .rf-read h))
+    ob-starts (ob-coe h n) = inl (writes (f .co-source h))
+    ob-starts (ob-addr h) = inl (reads (f .addr-read h))
+    ob-starts (ob-addr-po h k w) = inl (reads (f .addr-read h))
+    ob-starts (ob-data-rfi h k i) = inl (reads (f .data-read h))
+    ob-starts (ob-data-coi h o) = inl (reads (f .data-read h))
+    ob-starts (ob-ctrl h w) = inl (reads (f .ctrl-read h))
     ob-starts (ob-rmw h) = inr (f .rmw-po h)
     ob-starts (ob-pair x h i q) = inr i
     ob-starts {a} {b = c} (ob-sy {b = b} h s k) = inr (f .po-trans a b c h k)
-    ob-starts (ob-ld r h l k) = inl (inl r)
+    ob-starts (ob-ld r h l k) = inl (reads r)
     ob-starts (ob-acquire q h) = inr h
     ob-starts (ob-release h w o) = inr (weak-po h o)
 
     ob-ends : {a b : E} → Ob a b → Access b ⊎ (A .po a b × ((c : E) → A .po b c → Ob a c))
-    ob-ends (ob-rfe h n) = inl (inl (f .rf-read h))
-    ob-ends (ob-fre h k n) = inl (inr (f .co-target k))
-    ob-ends (ob-coe h n) = inl (inr (f .co-target h))
-    ob-ends (ob-addr h) = inl (f .addr-access h)
-    ob-ends (ob-addr-po h k w) = inl (inr w)
-    ob-ends (ob-data-rfi h k i) = inl (inl (f .rf-read k))
-    ob-ends (ob-data-coi h o) = inl (inr (weak-target (f .data-write h) o))
-    ob-ends (ob-ctrl h w) = inl (inr w)
-    ob-ends (ob-rmw h) = inl (inr (f .rmw-write h))
-    ob-ends (ob-pair x h i q) = inl (inl (f .rf-read h))
+    ob-ends (ob-rfe h n) = inl (reads (f .rf-read h))
+    ob-ends (ob-fre h k n) = inl (writes (f .co-target k))
+    ob-ends (ob-coe h n) = inl (writes (f .co-target h))
+    ob-ends (ob-addr h) = inl (elim (f .addr-access h) [ inl r ↦ reads r | inr w ↦ writes w ])
+    ob-ends (ob-addr-po h k w) = inl (writes w)
+    ob-ends (ob-data-rfi h k i) = inl (reads (f .rf-read k))
+    ob-ends (ob-data-coi h o) = inl (writes (weak-target (f .data-write h) o))
+    ob-ends (ob-ctrl h w) = inl (writes w)
+    ob-ends (ob-rmw h) = inl (writes (f .rmw-write h))
+    ob-ends (ob-pair x h i q) = inl (reads (f .rf-read h))
     ob-ends {a} {b = c} (ob-sy {b = b} h s k) = inr (f .po-trans a b c h k, λ d l. ob-sy h s (f .po-trans b c d k l))
     ob-ends {a} {b = c} (ob-ld {b = b} r h l k) = inr (f .po-trans a b c h k, λ d j. ob-ld r h l (f .po-trans b c d k j))
     ob-ends {a} {b} (ob-acquire q h) = inr (h, λ c k. ob-acquire q (f .po-trans a b c h k))
-    ob-ends (ob-release h w o) = inl (inr (weak-target (f .release-write w) o))
-
-    inner-access : {a b : E} → Inner a b → Access a
-    inner-access (coi h p) = inr (f .co-source h)
-    inner-access (fri h k p) = inl (f .rf-read h)
+    ob-ends (ob-release h w o) = inl (writes (weak-target (f .release-write w) o))
 
     -- A step of the order ends in an access or lies in po; one from a barrier lies in po.
     ord-ends : (a b : E) → Ord a b → Access b ⊎ A .po a b
     ord-ends a b (plain (inl h)) = elim (ob-ends h) [ inl c ↦ inl c | inr k ↦ inr (k .0) ]
-    ord-ends a b (plain (inr i)) = inl (inr (inner-write i))
+    ord-ends a b (plain (inr i)) = inl (writes (inner-write i))
     ord-ends a b (into-sy h s) = inr h
     ord-ends a b (into-ld r h l) = inr h
     ord-ends a b (out-sy s h) = inr h
     ord-ends a b (out-ld l h) = inr h
 
     ord-event : {a b : E} → Ord a b → A .E b
-    ord-event {a} {b} h = elim (ord-ends a b h) [ inl c ↦ elim c [ inl r ↦ f .read-event r | inr w ↦ f .write-event w ] | inr p ↦ f .po-target p ]
+    ord-event {a} {b} h = elim (ord-ends a b h) [ inl c ↦ elim c [ reads r ↦ f .read-event r | writes w ↦ f .write-event w ] | inr p ↦ f .po-target p ]
 
     ord-barrier : {a b : E} → A .set F a → Ord a b → A .po a b
     ord-barrier x (plain (inl h)) = elim (ob-starts h) [ inl c ↦ absurd (access-fence c x) | inr p ↦ p ]
@@ -250,8 +247,8 @@ module _ {E : Type 0} (A : Graph E) where
     to-barrier {y = y} {z = z} (at-barrier p g x) h v = at-barrier p (λ d k. g d (f .po-trans y z d (ord-barrier x h) k)) v
 
     to-any : {x y z : E} → At x y → Ord y z → A .set R z ⊎ A .set W z ⊎ A .set F z → At x z
-    to-any t h (inl r) = at-access (step (to-access t h (inl r))) (inl r)
-    to-any t h (inr (inl w)) = at-access (step (to-access t h (inr w))) (inr w)
+    to-any t h (inl r) = at-access (step (to-access t h (reads r))) (reads r)
+    to-any t h (inr (inl w)) = at-access (step (to-access t h (writes w))) (writes w)
     to-any t h (inr (inr x)) = to-barrier t h x
 
     run : {x y z : E} → At x y → Plus Ord y z → Access z → Plus Base x z

@@ -1,12 +1,11 @@
 -- Each relation of which rings are shown is the union of its clauses, and the first clause by the tests is the first in the graph.
-use mathlib.Core.Bool.{Bool, true, false, _||_, false≢true}
-use mathlib.Core.List.{List, [], _∷_, _++_, map}
+use mathlib.Core.Bool.{Bool, true, false, _||_, false≢true, or-false, or-assoc}
+use mathlib.Core.List.{List, [], _∷_, _++_, map, map-append}
 use mathlib.Core.Path.{_≡_, refl, sym, ap, ap₂, subst, _∙_, fun-ext}
 use Prim.Native.Nat.{ℕ, suc, _+_}
 use native.Mathlib.Omega.{arith}
 use lib.Dec.{T}
 use Rattle.relation.specs.Rel.{Rel, none, empty, union, either}
-use Rattle.relation.proofs.SetLaws.{or-false, or-assoc}
 use Rattle.relation.proofs.Truth.{holds}
 use Rattle.models.specs.Recording.{Recording}
 use Rattle.models.specs.Graph.{Base, graph, base, Within}
@@ -34,15 +33,11 @@ record Opened (t : Term) (ts : List Term) : Type 0 where
 part : {t : Term} → Opened t (t ∷ [])
 part {t} = record { is = λ es B. sym (unions-one (eval es t B)) }
 
-map-both : (es : List ℕ) (B : Base) (ts us : List Term) → map (λ u. eval es u B) (ts ++ us) ≡ map (λ u. eval es u B) ts ++ map (λ u. eval es u B) us
-map-both es B [] us = refl
-map-both es B (t ∷ ts) us = ap (λ (l : List Rel). eval es t B ∷ l) (map-both es B ts us)
-
 infixl 60 _then_
 _then_ : {t u : Term} {ts us : List Term} → Opened t ts → Opened u us → Opened (t ∪ u) (ts ++ us)
 unfolding eval
 _then_ {t} {u} {ts} {us} p q =
-    record { is = λ es B. ap₂ either (p .is es B) (q .is es B) ∙ sym (unions-both (map (λ u. eval es u B) ts) (map (λ u. eval es u B) us)) ∙ ap unions (sym (map-both es B ts us)) }
+    record { is = λ es B. ap₂ either (p .is es B) (q .is es B) ∙ sym (unions-both (map (λ u. eval es u B) ts) (map (λ u. eval es u B) us)) ∙ ap unions (sym (map-append (λ u. eval es u B) ts us)) }
 
 module _ (es : List ℕ) (B : Base) where
   pub ar-opened : eval es ar B ≡ unions (tested es B arClauses)

@@ -7,6 +7,11 @@ use Rattle.models.specs.Steps.{Plus, one, cons, Opt, stay, step}
 abbrev pub Weak : {E : Type 0} → (E → E → Type 0) → E → E → Type 0
 Weak r = Opt (λ _. Unit {0}) r
 
+-- r? as s*, where a step of r is one of s.
+pub weak-step : {E : Type 0} {S : E → Type 0} {r s : E → E → Type 0} {a b : E} → (r a b → s a b) → Opt S r a b → Weak (Plus s) a b
+weak-step f (stay e) = stay tt
+weak-step f (step h) = step (one (f h))
+
 module _ {E : Type 0} {r : E → E → Type 0} where
   pub join : {a b c : E} → Plus r a b → Plus r b c → Plus r a c
   join (one h) q = cons h q
@@ -37,6 +42,16 @@ module _ {E : Type 0} {r : E → E → Type 0} where
     pub weak-trans : {a b c : E} → Weak r a b → Weak r b c → Weak r a c
     weak-trans p (stay u) = p
     weak-trans p (step k) = step (weak-then p k)
+
+-- What holds where every step starts, or ends, holds where a path does.
+module _ {E : Type 0} {r : E → E → Type 0} {P : E → Type 0} where
+  pub path-source : ((a b : E) → r a b → P a) → {a b : E} → Plus r a b → P a
+  path-source f (one {a} {b} h) = f a b h
+  path-source f (cons {a} {b} h p) = f a b h
+
+  pub path-target : ((a b : E) → r a b → P b) → {a b : E} → Plus r a b → P b
+  path-target f (one {a} {b} h) = f a b h
+  path-target f (cons h p) = path-target f p
 
 -- Each step of r is one or more of s.
 pub flat : {E : Type 0} {r s : E → E → Type 0} → ((a b : E) → r a b → Plus s a b) → {a b : E} → Plus r a b → Plus s a b
@@ -72,15 +87,15 @@ comparable {r = r} f (cons {a = c} {b = d} h p) (cons {b = e} {c = b} k q) = com
 
 -- Events chained in between old ones: a step s from an old event is a step r to an old one, or enters a new event from which each step s
 -- ends where r went. Then paths of s between old events are paths of r.
-pub unchained : {E : Type 0} {r s : E → E → Type 0} {old : E → Type 0}
-    → ((a x : E) → old a → s a x → (old x × r a x) ⊎ (¬ old x × ((b : E) → s x b → old b × r a b)))
-    → {a b : E} → old a → old b → Plus s a b → Plus r a b
-unchained f p q (one {a} {b} h) = elim (f a b p h) [ inl k ↦ one (k .1) | inr k ↦ absurd (k .0 q) ]
-unchained f p q (cons {a} {b = x} h (one {b = b} k)) = elim (f a x p h) [
-  | inl l ↦ cons (l .1) (unchained f (l .0) q (one k))
-  | inr l ↦ one (l .1 b k .1)
-]
-unchained f p q (cons {a} {b = x} h (cons {b = y} k t)) = elim (f a x p h) [
-  | inl l ↦ cons (l .1) (unchained f (l .0) q (cons k t))
-  | inr l ↦ (let m = l .1 y k in cons (m .1) (unchained f (m .0) q t))
-]
+module _ {E : Type 0} {r s : E → E → Type 0} {old : E → Type 0}
+    (f : (a x : E) → old a → s a x → (old x × r a x) ⊎ (¬ old x × ((b : E) → s x b → old b × r a b))) where
+  pub unchained : {a b : E} → old a → old b → Plus s a b → Plus r a b
+  unchained p q (one {a} {b} h) = elim (f a b p h) [ inl k ↦ one (k .1) | inr k ↦ absurd (k .0 q) ]
+  unchained p q (cons {a} {b = x} h (one {b = b} k)) = elim (f a x p h) [
+    | inl l ↦ cons (l .1) (unchained (l .0) q (one k))
+    | inr l ↦ one (l .1 b k .1)
+  ]
+  unchained p q (cons {a} {b = x} h (cons {b = y} k t)) = elim (f a x p h) [
+    | inl l ↦ cons (l .1) (unchained (l .0) q (cons k t))
+    | inr l ↦ (let m = l .1 y k in cons (m .1) (unchained (m .0) q t))
+  ]

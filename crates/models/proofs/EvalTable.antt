@@ -1,7 +1,7 @@
 -- Verdicts computed by tables: the tests of a term over a list of events as rows of Bools, each operator by whole rows.
 -- `table-verdict` equates the verdict with the one computed so, which the checker evaluates quickly at a closed recording.
 use mathlib.Core.Bool.{Bool, true, false, not, _&&_, _||_, or-false}
-use mathlib.Core.List.{List, [], _∷_, map, zipWith, List·Memᴰ, List·Memᴰ·head, List·Memᴰ·tail}
+use mathlib.Core.List.{List, [], _∷_, map, map-map, zipWith, List·Memᴰ, List·Memᴰ·head, List·Memᴰ·tail}
 use mathlib.Core.Path.{_≡_, refl, sym, ap, ap₂, _∙_, subst}
 use Prim.Native.Nat.{ℕ}
 use lib.Dec.{T, eqb, eqb→eq, eqb-refl}
@@ -71,10 +71,6 @@ zip-map f g h (x ∷ xs) = ap (λ l. f (g x) (h x) ∷ l) (zip-map f g h xs)
 map-congr : {A B : Type 0} (g h : A → B) (xs : List A) → ((x : A) → g x ≡ h x) → map g xs ≡ map h xs
 map-congr g h [] e = refl
 map-congr g h (x ∷ xs) e = λ i. e x i ∷ map-congr g h xs e i
-
-map-map : {A B C : Type 0} (f : B → C) (g : A → B) (xs : List A) → map f (map g xs) ≡ map (λ x. f (g x)) xs
-map-map f g [] = refl
-map-map f g (x ∷ xs) = ap (λ l. f (g x) ∷ l) (map-map f g xs)
 
 zip-table : (f : Bool → Bool → Bool) (ks es : List ℕ) (r s : Rel) → zip f (table ks es r) (table ks es s) ≡ table ks es (λ i j. f (r i j) (s i j))
 unfolding zip
@@ -214,25 +210,28 @@ codomain-row : (es : List ℕ) (r : Rel) → codomain es (table es es r) ≡ map
 unfolding codomain inverse
 codomain-row es r = ap (map orAll) (turned-table es es r) ∙ (map-map orAll (λ j. map (inverse r j) es) es ∙ map-congr _ _ es (λ j. or-row es (inverse r j)))
 
+-- The tables of a recording, with those of po, co and ctrl given.
+unfoldable pub withClosures : List ℕ → Recording ℕ → Table → Table → Table → Tables
+withClosures es r x y z = record {
+  E = map (event r) es;
+  Init = map (r .initial) es;
+  set = λ s. map (member r s) es;
+  loc = table es es (sameLocation r);
+  po = x;
+  rf = table es es (r .link 1);
+  co = y;
+  rmw = table es es (r .link 3);
+  «data» = table es es (r .link 4);
+  addr = table es es (r .link 5);
+  ctrl = z;
+  casdep = table es es (r .link 7);
+}
+
 -- The tables of a recording, each closure computed once.
 unfoldable pub tables : List ℕ → Recording ℕ → Tables
 tables es r =
-    let E : Row = map (event r) es in
     let po : Table = zip _||_ (cross (map (r .initial) es) (map (r .recorded) es)) (rounds es es (table es es (r .next))) in
-    record {
-      E = E;
-      Init = map (r .initial) es;
-      set = λ s. map (member r s) es;
-      loc = table es es (sameLocation r);
-      po = po;
-      rf = table es es (r .link 1);
-      co = rounds es es (table es es (coStep r));
-      rmw = table es es (r .link 3);
-      «data» = table es es (r .link 4);
-      addr = table es es (r .link 5);
-      ctrl = times es (table es es (r .link 6)) (zip _||_ po (ones es E));
-      casdep = table es es (r .link 7);
-    }
+    withClosures es r po (rounds es es (table es es (coStep r))) (times es (table es es (r .link 6)) (zip _||_ po (ones es (map (event r) es))))
 
 po-table : (es : List ℕ) (r : Recording ℕ) → zip _||_ (cross (map (r .initial) es) (map (r .recorded) es)) (rounds es es (table es es (r .next))) ≡ table es es (base es r .po)
 unfolding base either union
@@ -245,21 +244,8 @@ ctrl-table es r t p =
     ∙ times-table es es es (r .link 6) (optional (event r) (base es r .po))
 
 tables-are : (es : List ℕ) (r : Recording ℕ) → tables es r ≡ tabulated es (base es r)
-unfolding tables tabulated base
-tables-are es r = λ i. record {
-  E = map (event r) es;
-  Init = map (r .initial) es;
-  set = λ s. map (member r s) es;
-  loc = table es es (sameLocation r);
-  po = po-table es r i;
-  rf = table es es (r .link 1);
-  co = rounds-table es es (coStep r) (λ k m. m) i;
-  rmw = table es es (r .link 3);
-  «data» = table es es (r .link 4);
-  addr = table es es (r .link 5);
-  ctrl = ctrl-table es r _ (po-table es r) i;
-  casdep = table es es (r .link 7);
-}
+unfolding tables withClosures tabulated base
+tables-are es r = λ i. withClosures es r (po-table es r i) (rounds-table es es (coStep r) (λ k m. m) i) (ctrl-table es r _ (po-table es r) i)
 
 -- The failures by tables.
 unfoldable pub loops : List ℕ → Table → Row
@@ -322,7 +308,7 @@ failures-table es B M =
 -- The verdict by tables.
 -- To unfold it is to unfold all that it computes with: `unfolding tableVerdict` lets it be evaluated by `refl`.
 unfoldable pub tableVerdict : List ℕ → Recording ℕ → Model → ℕ
-unfolding zipWith event ofClass ofMode flagged acquireFence releaseFence access sameLocation coStep first zip blank picked times turned entry round rounds ones orAll cross codomain loops orTable unreadRow unorderedTable evalTable tables failuresTable
+unfolding zipWith event ofClass ofMode flagged acquireFence releaseFence access sameLocation coStep first zip blank picked times turned entry round rounds ones orAll cross codomain loops orTable unreadRow unorderedTable evalTable withClosures tables failuresTable
 tableVerdict es r M = first (failuresTable es (tables es r) M)
 
 pub table-verdict : (es : List ℕ) (r : Recording ℕ) (M : Model) → verdict es (base es r) M ≡ tableVerdict es r M

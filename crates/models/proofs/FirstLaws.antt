@@ -8,7 +8,7 @@ use native.Mathlib.Decide.{ℕ-discrete}
 use borrow.Author.Tests.{eq-eqb, ne-eqb}
 use lib.Dec.{eqb}
 use lib.ListN.{take}
-use Rattle.relation.proofs.Meaning.{and-left, and-right, or-left, or-right}
+use Rattle.relation.proofs.Truth.{and-left, and-right, or-left, or-right}
 use Rattle.models.specs.Rules.{Numbered, first}
 
 -- The test of that number, and false where none has it.

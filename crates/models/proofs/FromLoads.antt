@@ -7,7 +7,7 @@ use Rattle.models.specs.Recording.{Recording, event, read, write, fence,
 use Rattle.models.specs.Steps.{Plus, one, cons, stay, step}
 use Rattle.models.specs.Graph.{graph}
 use Rattle.models.specs.Loads.{Loads}
-use Rattle.models.proofs.Closure.{join, reversed, comparable}
+use Rattle.models.proofs.Closure.{join, collapse, path-source, path-target, mapped, reversed, comparable}
 use Rattle.models.proofs.MemberLaws.{initial-event, recorded-event, event-cases, class-event, class-intro, class-apart, mode-class, flag-class, acquire-fence, release-fence, sc-release, access-cases, read-access, write-access, same-intro, same-first, same-second, same-location, CoStep, linked, initially, step-cases}
 use Rattle.models.proofs.Formed.{Formed}
 
@@ -36,12 +36,10 @@ module _ {E : Type 0} (r : Recording E) (l : Loads r) where
 
   -- Program order.
   nexts-source : {a b : E} → Plus Next a b → T (r .recorded a)
-  nexts-source (one {a} {b} h) = l .next-source a b h
-  nexts-source (cons {a} {b} h p) = l .next-source a b h
+  nexts-source = path-source (l .next-source)
 
   nexts-target : {a b : E} → Plus Next a b → T (r .recorded b)
-  nexts-target (one {a} {b} h) = l .next-target a b h
-  nexts-target (cons h p) = nexts-target p
+  nexts-target = path-target (l .next-target)
 
   po-source : {a b : E} → Po a b → T (event r a)
   po-source {a} (inl h) = initial-event r a (h .0)
@@ -100,37 +98,21 @@ module _ {E : Type 0} (r : Recording E) (l : Loads r) where
   abbrev Co : E → E → Type 0
   Co a b = T (coStep r a b)
 
-  step-source : (a b : E) → CoStep r a b → T (write r a)
-  step-source a b (linked h) = l .co a b h .0
-  step-source a b (initially i c w s) = initial-is-write a i
-
-  step-target : (a b : E) → CoStep r a b → T (write r b)
-  step-target a b (linked h) = l .co a b h .1
-  step-target a b (initially i c w s) = w
-
-  step-recorded : (a b : E) → CoStep r a b → T (r .recorded b)
-  step-recorded a b (linked h) = l .co a b h .2
-  step-recorded a b (initially i c w s) = c
-
-  step-location : (a b : E) → CoStep r a b → r .location a ≡ r .location b
-  step-location a b (linked h) = l .co a b h .3
-  step-location a b (initially i c w s) = same-location r a b s
+  co-step : (a b : E) → Co a b → T (write r a) × T (write r b) × T (r .recorded b) × (r .location a ≡ r .location b)
+  co-step a b h = go (step-cases r a b h)
+    where
+      go : CoStep r a b → T (write r a) × T (write r b) × T (r .recorded b) × (r .location a ≡ r .location b)
+      go (linked k) = l .co a b k
+      go (initially i c w s) = (initial-is-write a i, w, c, same-location r a b s)
 
   co-source : {a b : E} → Plus Co a b → T (write r a)
-  co-source (one {a} {b} h) = step-source a b (step-cases r a b h)
-  co-source (cons {a} {b} h p) = step-source a b (step-cases r a b h)
+  co-source = path-source (λ a b h. co-step a b h .0)
 
   co-target : {a b : E} → Plus Co a b → T (write r b)
-  co-target (one {a} {b} h) = step-target a b (step-cases r a b h)
-  co-target (cons h p) = co-target p
-
-  co-recorded : {a b : E} → Plus Co a b → T (r .recorded b)
-  co-recorded (one {a} {b} h) = step-recorded a b (step-cases r a b h)
-  co-recorded (cons h p) = co-recorded p
+  co-target = path-target (λ a b h. co-step a b h .1)
 
   co-location : {a b : E} → Plus Co a b → r .location a ≡ r .location b
-  co-location (one {a} {b} h) = step-location a b (step-cases r a b h)
-  co-location (cons {a} {b} h p) = step-location a b (step-cases r a b h) ∙ co-location p
+  co-location p = collapse (λ a b c. _∙_) (mapped (λ a b h. co-step a b h .3) p)
 
   pub formed : Formed (graph r)
   formed = record {
@@ -185,5 +167,5 @@ module _ {E : Type 0} (r : Recording E) (l : Loads r) where
     co-loc = λ {a} {b} h. same-intro r a b (write-access r a (co-source h)) (write-access r b (co-target h)) (co-location h);
     co-trans = λ h k. join h k;
     co-irreflexive = λ {a} h. l .co-acyclic a h;
-    co-recorded = λ {a} {b} h i. l .initial-unrecorded b i (co-recorded h);
+    co-recorded = λ {a} {b} h i. l .initial-unrecorded b i (path-target (λ x y k. co-step x y k .2) h);
   }

@@ -2,16 +2,16 @@
 use mathlib.Core.Bool.{_&&_}
 use mathlib.Core.Logic.{_⊎_, inl, inr, _↔_}
 use mathlib.Core.Path.{_≡_, refl, sym, _∙_, ap, subst}
-use Prim.Native.Nat.{ℕ, _≤_}
+use Prim.Native.Nat.{ℕ}
 use native.Mathlib.Omega.{arith}
-use lib.Dec.{T, lit≤}
-use Rattle.models.specs.Recording.{Recording, event, read, write, fence, access, exclusiveRead, strongWrite, fenceOf, sameLocation, coStep}
+use lib.Dec.{T, leb, lit≤}
+use Rattle.models.specs.Recording.{Recording, event, ofClass, read, write, access, exclusiveRead, strongWrite, fenceOf, sameLocation, coStep}
 use Rattle.models.specs.Steps.{Plus, one, cons, stay, step}
 use Rattle.models.specs.Graph.{graph}
 use Rattle.models.specs.Loads.{Loads}
 use Rattle.models.specs.Translated.{Control, kept, after-read, after-pair, after-casdep, Translated}
-use Rattle.models.proofs.Closure.{join, snoc, flat, mapped, unchained}
-use Rattle.models.proofs.Tests.{and-intro, and-left, and-right, T-cases}
+use Rattle.models.proofs.Closure.{join, snoc, path-source, path-target, flat, mapped, unchained}
+use Rattle.relation.proofs.Truth.{T-and, T-and-left, T-and-right, T-cases}
 use Rattle.models.proofs.MemberLaws.{initial-event, recorded-event, event-cases, class-event, class-is, class-intro, class-apart, mode-class, mode-is, mode-intro, flag-class, flag-is, flag-intro, release-fence, release-fence-mode, access-cases, read-access, write-access, access-event, same-intro, same-first, same-second, same-location, CoStep, linked, initially, step-cases, step-intro}
 use Rattle.models.proofs.FromLoads.{po-next, read-uninitial, rmw-next}
 use Rattle.models.proofs.Corresponds.{Corresponds}
@@ -39,13 +39,17 @@ module _ {E : Type 0} (S C : Recording E) (l : Loads S) (t : Translated S C) whe
     into : T (strongWrite S a) → b ≡ t .inserted a → Step a b
     out : (w : E) → T (strongWrite S w) → a ≡ t .inserted w → T (S .next w b) → Step a b
 
+  -- What follows an inserted fence followed its write.
+  next-from : (w a b : E) → T (strongWrite S w) → a ≡ t .inserted w → NextC a b → NextS w b
+  next-from w a b s p h = subst T (ap (λ x. C .next x b) p ∙ t .next-inserted w b s) h
+
   next-step : (a b : E) → T (C .next a b) → Step a b
   next-step a b h = elim (t .recorded-only a (t .next-source a b h)) [
     | inl r ↦ elim (T-cases (strongWrite S a)) [
       | inl s ↦ into s (t .next-strong a b s .0 h)
       | inr n ↦ plainly r n (subst T (t .next-kept a b r n) h)
     ]
-    | inr (w, s, p) ↦ out w s p (subst T (ap (λ x. C .next x b) p ∙ t .next-inserted w b s) h)
+    | inr (w, s, p) ↦ out w s p (next-from w a b s p h)
   ]
 
   next-into : (w : E) → T (strongWrite S w) → NextC w (t .inserted w)
@@ -66,7 +70,7 @@ module _ {E : Type 0} (S C : Recording E) (l : Loads S) (t : Translated S C) whe
 
   step-unchained : (a x : E) → T (S .recorded a) → Step a x → (T (S .recorded x) × NextS a x) ⊎ (¬ T (S .recorded x) × ((b : E) → NextC x b → T (S .recorded b) × NextS a b))
   step-unchained a x r (plainly q n h) = inl (l .next-target a x h, h)
-  step-unchained a x r (into s p) = inr (fresh-recorded a x s p, λ b h. (let k = subst T (ap (λ y. C .next y b) p ∙ t .next-inserted a b s) h in (l .next-target a b k, k)))
+  step-unchained a x r (into s p) = inr (fresh-recorded a x s p, λ b h. (let k = next-from a x b s p h in (l .next-target a b k, k)))
   step-unchained a x r (out w s p h) = absurd (fresh-recorded w a s p r)
 
   nexts-unchained : {a b : E} → T (S .recorded a) → T (S .recorded b) → Plus NextC a b → Plus NextS a b
@@ -94,20 +98,14 @@ module _ {E : Type 0} (S C : Recording E) (l : Loads S) (t : Translated S C) whe
   unrecorded : (e : E) → T (C .initial e) → ¬ T (C .recorded e)
   unrecorded e i r = (let h = initial-from e i in l .initial-unrecorded e h (recorded-from e (initial-event S e h) r))
 
-  read-to : (e : E) → T (read S e) → T (read C e)
-  read-to e h = (let k = class-event S 1 e h in class-intro C 1 e (event-to e k) (t .class e k ∙ class-is S 1 e h))
-
-  write-to : (e : E) → T (write S e) → T (write C e)
-  write-to e h = (let k = class-event S 2 e h in class-intro C 2 e (event-to e k) (t .class e k ∙ class-is S 2 e h))
-
-  fence-to : (e : E) → T (fence S e) → T (fence C e)
-  fence-to e h = (let k = class-event S 3 e h in class-intro C 3 e (event-to e k) (t .class e k ∙ class-is S 3 e h))
+  class-to : (n : ℕ) (e : E) → T (ofClass S n e) → T (ofClass C n e)
+  class-to n e h = (let k = class-event S n e h in class-intro C n e (event-to e k) (t .class e k ∙ class-is S n e h))
 
   exclusive-to : (e : E) → T (exclusiveRead S e) → T (exclusiveRead C e)
-  exclusive-to e h = (let k = flag-class S 1 e h in flag-intro C 1 e (read-to e k) (t .read-flag e k ∙ flag-is S 1 e h))
+  exclusive-to e h = (let k = flag-class S 1 e h in flag-intro C 1 e (class-to 1 e k) (t .read-flag e k ∙ flag-is S 1 e h))
 
   access-to : (e : E) → T (access S e) → T (access C e)
-  access-to e h = elim (access-cases S e h) [ inl r ↦ read-access C e (read-to e r) | inr w ↦ write-access C e (write-to e w) ]
+  access-to e h = elim (access-cases S e h) [ inl r ↦ read-access C e (class-to 1 e r) | inr w ↦ write-access C e (class-to 2 e w) ]
 
   write-from : (e : E) → T (write C e) → T (write S e)
   write-from e h = elim (event-from e (class-event C 2 e h)) [
@@ -125,23 +123,8 @@ module _ {E : Type 0} (S C : Recording E) (l : Loads S) (t : Translated S C) whe
       same-intro C a b (access-to a p) (access-to b q) (location-to a b (access-event S a p) (access-event S b q) (same-location S a b h))
 
   -- Links.
-  links : (n : ℕ) → 1 ≤ n → n ≤ 5 → (a b : E) → T (S .link n a b) ↔ T (C .link n a b)
-  links n p q a b = (subst T (sym (t .link n p q a b)), subst T (t .link n p q a b))
-
-  rf-links : (a b : E) → T (S .link 1 a b) ↔ T (C .link 1 a b)
-  rf-links = links 1 (lit≤ tt) (lit≤ tt)
-
-  co-links : (a b : E) → T (S .link 2 a b) ↔ T (C .link 2 a b)
-  co-links = links 2 (lit≤ tt) (lit≤ tt)
-
-  rmw-links : (a b : E) → T (S .link 3 a b) ↔ T (C .link 3 a b)
-  rmw-links = links 3 (lit≤ tt) (lit≤ tt)
-
-  data-links : (a b : E) → T (S .link 4 a b) ↔ T (C .link 4 a b)
-  data-links = links 4 (lit≤ tt) (lit≤ tt)
-
-  addr-links : (a b : E) → T (S .link 5 a b) ↔ T (C .link 5 a b)
-  addr-links = links 5 (lit≤ tt) (lit≤ tt)
+  links : (n : ℕ) → T (leb 1 n) → T (leb n 5) → (a b : E) → T (S .link n a b) ↔ T (C .link n a b)
+  links n p q a b = (let e = t .link n (lit≤ p) (lit≤ q) a b in (subst T (sym e), subst T e))
 
   -- Program order and co.
   po-to : {a b : E} → graph S .po a b → graph C .po a b
@@ -149,8 +132,7 @@ module _ {E : Type 0} (S C : Recording E) (l : Loads S) (t : Translated S C) whe
   po-to (inr p) = inr (flat next-chained p)
 
   nexts-recorded : {a b : E} → Plus NextC a b → T (C .recorded a)
-  nexts-recorded (one {a} {b} h) = t .next-source a b h
-  nexts-recorded (cons {a} {b} h p) = t .next-source a b h
+  nexts-recorded = path-source (t .next-source)
 
   next-target : (a b : E) → NextC a b → T (C .recorded b)
   next-target a b h = target (next-step a b h)
@@ -160,26 +142,22 @@ module _ {E : Type 0} (S C : Recording E) (l : Loads S) (t : Translated S C) whe
       target (into s p) = subst (λ x. T (C .recorded x)) (sym p) (t .recorded-new a s)
       target (out w s p k) = t .recorded b (l .next-target w b k)
 
-  nexts-target : {a b : E} → Plus NextC a b → T (C .recorded b)
-  nexts-target (one {a} {b} h) = next-target a b h
-  nexts-target (cons h p) = nexts-target p
-
   po-from : {a b : E} → T (event S a) → T (event S b) → graph C .po a b → graph S .po a b
   po-from {a} {b} p q (inl h) = inl (initial-from a (h .0), recorded-from b q (h .1))
-  po-from {a} {b} p q (inr h) = inr (nexts-unchained (recorded-from a p (nexts-recorded h)) (recorded-from b q (nexts-target h)) h)
+  po-from {a} {b} p q (inr h) = inr (nexts-unchained (recorded-from a p (nexts-recorded h)) (recorded-from b q (path-target next-target h)) h)
 
   co-to : (a b : E) → T (coStep S a b) → T (coStep C a b)
   co-to a b h = step-intro C a b (go (step-cases S a b h))
     where
       go : CoStep S a b → CoStep C a b
-      go (linked k) = linked (co-links a b .0 k)
-      go (initially i r w s) = initially (initial-to a i) (t .recorded b r) (write-to b w) (same-to a b s)
+      go (linked k) = linked (links 2 tt tt a b .0 k)
+      go (initially i r w s) = initially (initial-to a i) (t .recorded b r) (class-to 2 b w) (same-to a b s)
 
   co-from : (a b : E) → T (coStep C a b) → T (coStep S a b)
   co-from a b h = step-intro S a b (go (step-cases C a b h))
     where
       go : CoStep C a b → CoStep S a b
-      go (linked k) = linked (co-links a b .1 k)
+      go (linked k) = linked (links 2 tt tt a b .1 k)
       go (initially i r w s) =
           let i′ = initial-from a i in
           let w′ = write-from b w in
@@ -188,16 +166,14 @@ module _ {E : Type 0} (S C : Recording E) (l : Loads S) (t : Translated S C) whe
           initially i′ (recorded-from b eb r) w′ (same-intro S a b (write-access S a (class-intro S 2 a ea (l .initial-write a i′))) (write-access S b w′) (sym (t .location a ea) ∙ (same-location C a b s ∙ t .location b eb)))
 
   -- The translation loads.
-  one-next : (a b c : E) → Step a b → Step a c → b ≡ c
-  one-next a b c (plainly r n h) (plainly r′ n′ k) = l .next-functional a b c h k
-  one-next a b c (plainly r n h) (into s p) = absurd (n s)
-  one-next a b c (plainly r n h) (out w s p k) = absurd (fresh-recorded w a s p r)
-  one-next a b c (into s p) (plainly r n h) = absurd (n s)
-  one-next a b c (into s p) (into s′ q) = p ∙ sym q
-  one-next a b c (into s p) (out w s′ q k) = absurd (fresh-recorded w a s′ q (strong-recorded a s))
-  one-next a b c (out w s p h) (plainly r n k) = absurd (fresh-recorded w a s p r)
-  one-next a b c (out w s p h) (into s′ q) = absurd (fresh-recorded w a s p (strong-recorded a s′))
-  one-next a b c (out v s p h) (out w s′ q k) = l .next-functional w b c (subst (λ x. NextS x b) (t .inserted-once v w s s′ (sym p ∙ q)) h) k
+  one-next : (a b c : E) → NextC a b → NextC a c → b ≡ c
+  one-next a b c h k = elim (t .recorded-only a (t .next-source a b h)) [
+    | inl r ↦ elim (T-cases (strongWrite S a)) [
+      | inl s ↦ t .next-strong a b s .0 h ∙ sym (t .next-strong a c s .0 k)
+      | inr n ↦ l .next-functional a b c (subst T (t .next-kept a b r n) h) (subst T (t .next-kept a c r n) k)
+    ]
+    | inr (w, s, p) ↦ l .next-functional w b c (next-from w a b s p h) (next-from w a c s p k)
+  ]
 
   one-before : (a b c : E) → Step a c → Step b c → a ≡ b
   one-before a b c (plainly r n h) (plainly r′ n′ k) = l .next-injective a b c h k
@@ -218,7 +194,7 @@ module _ {E : Type 0} (S C : Recording E) (l : Loads S) (t : Translated S C) whe
   no-ring a p = elim (t .recorded-only a (nexts-recorded p)) [ inl r ↦ no-ring-at a r p | inr (w, s, q) ↦ leave w s q p ]
     where
       after : (w b : E) → T (strongWrite S w) → a ≡ t .inserted w → NextC a b → T (S .recorded b)
-      after w b s q h = l .next-target w b (subst T (ap (λ x. C .next x b) q ∙ t .next-inserted w b s) h)
+      after w b s q h = l .next-target w b (next-from w a b s q h)
 
       leave : (w : E) → T (strongWrite S w) → a ≡ t .inserted w → ¬ Plus NextC a a
       leave w s q (one h) = fresh-recorded w a s q (after w a s q h)
@@ -255,18 +231,18 @@ module _ {E : Type 0} (S C : Recording E) (l : Loads S) (t : Translated S C) whe
     ];
     next-source = t .next-source;
     next-target = next-target;
-    next-functional = λ a b c h k. one-next a b c (next-step a b h) (next-step a c k);
+    next-functional = one-next;
     next-injective = λ a b c h k. one-before a b c (next-step a c h) (next-step b c k);
     next-acyclic = no-ring;
-    rf = λ a b h. (let k = l .rf a b (rf-links a b .1 h) in let ea = class-event S 2 a (k .0) in let eb = class-event S 1 b (k .1) in
-        (write-to a (k .0), read-to b (k .1), location-to a b ea eb (k .2)));
-    rf-once = λ a b c h k. l .rf-once a b c (rf-links a c .1 h) (rf-links b c .1 k);
-    co = λ a b h. (let k = l .co a b (co-links a b .1 h) in (write-to a (k .0), write-to b (k .1), t .recorded b (k .2), location-to a b (class-event S 2 a (k .0)) (class-event S 2 b (k .1)) (k .3)));
-    rmw = λ a b h. (let k = l .rmw a b (rmw-links a b .1 h) in let r = flag-class S 1 a (k .0) in
-        (exclusive-to a (k .0), write-to b (k .1), read-next a b r (k .2), location-to a b (class-event S 1 a r) (class-event S 2 b (k .1)) (k .3)));
-    «data» = λ a b h. (let k = l .«data» a b (data-links a b .1 h) in (read-to a (k .0), write-to b (k .1), po-to (k .2)));
-    addr = λ a b h. (let k = l .addr a b (addr-links a b .1 h) in (read-to a (k .0), access-to b (k .1), po-to (k .2)));
-    ctrl = λ a b h. (let k = t .ctrl a b .0 h in (read-to a (control-source a b k), control-po a b k));
+    rf = λ a b h. (let k = l .rf a b (links 1 tt tt a b .1 h) in let ea = class-event S 2 a (k .0) in let eb = class-event S 1 b (k .1) in
+        (class-to 2 a (k .0), class-to 1 b (k .1), location-to a b ea eb (k .2)));
+    rf-once = λ a b c h k. l .rf-once a b c (links 1 tt tt a c .1 h) (links 1 tt tt b c .1 k);
+    co = λ a b h. (let k = l .co a b (links 2 tt tt a b .1 h) in (class-to 2 a (k .0), class-to 2 b (k .1), t .recorded b (k .2), location-to a b (class-event S 2 a (k .0)) (class-event S 2 b (k .1)) (k .3)));
+    rmw = λ a b h. (let k = l .rmw a b (links 3 tt tt a b .1 h) in let r = flag-class S 1 a (k .0) in
+        (exclusive-to a (k .0), class-to 2 b (k .1), read-next a b r (k .2), location-to a b (class-event S 1 a r) (class-event S 2 b (k .1)) (k .3)));
+    «data» = λ a b h. (let k = l .«data» a b (links 4 tt tt a b .1 h) in (class-to 1 a (k .0), class-to 2 b (k .1), po-to (k .2)));
+    addr = λ a b h. (let k = l .addr a b (links 5 tt tt a b .1 h) in (class-to 1 a (k .0), access-to b (k .1), po-to (k .2)));
+    ctrl = λ a b h. (let k = t .ctrl a b .0 h in (class-to 1 a (control-source a b k), control-po a b k));
     casdep = λ a b h. absurd (t .casdep a b h);
     co-acyclic = λ a p. l .co-acyclic a (mapped co-from p);
     strong = λ e h. absurd (strong-none e h);
@@ -295,18 +271,18 @@ module _ {E : Type 0} (S C : Recording E) (l : Loads S) (t : Translated S C) whe
     not-both : ¬ T (S .link 3 a d && S .link 4 a d) → (w : E) → T (S .link 3 a w) → ¬ T (S .link 4 a w)
     not-both n w m k =
         let e : w ≡ d = l .next-functional a w d (rmw-next S l a w m) h in
-        n (and-intro (S .link 3 a d) (S .link 4 a d) (subst (λ y. T (S .link 3 a y)) e m) (subst (λ y. T (S .link 4 a y)) e k))
+        n (T-and (S .link 3 a d) (S .link 4 a d) (subst (λ y. T (S .link 3 a y)) e m) (subst (λ y. T (S .link 4 a y)) e k))
 
     after-it : ¬ T (S .link 3 a d && S .link 4 a d) → (b : E) → Plus NextC a b → graph C .ctrl a b
     after-it n b p = ctrl-along a (λ y m. t .ctrl a y .1 (after-read x (not-both n) m)) p
 
   exclusive-to-ctrl : (a b : E) → T (exclusiveRead S a) → Plus NextS a b → graph C .ctrl a b ⊎ (T (C .link 3 a b) × T (C .link 4 a b))
   exclusive-to-ctrl a b x (one h) = elim (T-cases (S .link 3 a b && S .link 4 a b)) [
-    | inl k ↦ inr (rmw-links a b .0 (and-left (S .link 3 a b) (S .link 4 a b) k), data-links a b .0 (and-right (S .link 3 a b) (S .link 4 a b) k))
+    | inl k ↦ inr (links 3 tt tt a b .0 (T-and-left (S .link 3 a b) (S .link 4 a b) k), links 4 tt tt a b .0 (T-and-right (S .link 3 a b) (S .link 4 a b) k))
     | inr n ↦ inl (after-it a b x h n b (next-chained a b h))
   ]
   exclusive-to-ctrl a b x (cons {b = d} h p) = elim (T-cases (S .link 3 a d && S .link 4 a d)) [
-    | inl k ↦ inl (both-links a d x h (and-left (S .link 3 a d) (S .link 4 a d) k) (and-right (S .link 3 a d) (S .link 4 a d) k) b p)
+    | inl k ↦ inl (both-links a d x h (T-and-left (S .link 3 a d) (S .link 4 a d) k) (T-and-right (S .link 3 a d) (S .link 4 a d) k) b p)
     | inr n ↦ inl (after-it a d x h n b (join (next-chained a d h) (flat next-chained p)))
   ]
 
@@ -323,21 +299,21 @@ module _ {E : Type 0} (S C : Recording E) (l : Loads S) (t : Translated S C) whe
 
   pub corresponds : Corresponds (graph S) (graph C)
   corresponds = record {
-    read = λ {a} h. read-to a h;
-    write = λ {a} h. write-to a h;
-    acquire = λ {a} h. (let r = mode-class S 1 1 a h in mode-intro C 1 1 a (read-to a r) (t .mode a (read-access S a r) ∙ mode-is S 1 1 a h));
-    release = λ {a} h. (let w = mode-class S 2 2 a h in mode-intro C 2 2 a (write-to a w) (t .mode a (write-access S a w) ∙ mode-is S 2 2 a h));
+    read = λ {a} h. class-to 1 a h;
+    write = λ {a} h. class-to 2 a h;
+    acquire = λ {a} h. (let r = mode-class S 1 1 a h in mode-intro C 1 1 a (class-to 1 a r) (t .mode a (read-access S a r) ∙ mode-is S 1 1 a h));
+    release = λ {a} h. (let w = mode-class S 2 2 a h in mode-intro C 2 2 a (class-to 2 a w) (t .mode a (write-access S a w) ∙ mode-is S 2 2 a h));
     loc = λ {a} {b} h. same-to a b h;
-    fence = λ {a} h. elim (t .fence-mode a h) [ inl k ↦ inl (mode-intro C 3 5 a (fence-to a h) (k .1)) | inr k ↦ inr (mode-intro C 3 6 a (fence-to a h) (k .1)) ];
-    release-fence = λ {a} h. (let x = release-fence S a h in elim (t .fence-mode a x) [ inl k ↦ absurd (release-fence-mode S a h (k .0)) | inr k ↦ mode-intro C 3 6 a (fence-to a x) (k .1) ]);
+    fence = λ {a} h. elim (t .fence-mode a h) [ inl k ↦ inl (mode-intro C 3 5 a (class-to 3 a h) (k .1)) | inr k ↦ inr (mode-intro C 3 6 a (class-to 3 a h) (k .1)) ];
+    release-fence = λ {a} h. (let x = release-fence S a h in elim (t .fence-mode a x) [ inl k ↦ absurd (release-fence-mode S a h (k .0)) | inr k ↦ mode-intro C 3 6 a (class-to 3 a x) (k .1) ]);
     po-to = po-to;
     po-from = λ {a} {b} p q h. po-from p q h;
     strong = λ {a} s. (t .inserted a, inserted-ld a s, inr (one (next-into a s)), λ b h. inr (inserted-before a b s (po-next S l (strong-uninitial a s) h)));
-    rf = rf-links;
+    rf = links 1 tt tt;
     co = λ a b. (mapped co-to, mapped co-from);
-    rmw = rmw-links;
-    «data» = data-links;
-    addr = addr-links;
+    rmw = links 3 tt tt;
+    «data» = links 4 tt tt;
+    addr = links 5 tt tt;
     ctrl = λ {a} {b} h. ctrl-to a b h;
     exclusive = λ {a} {b} x h. exclusive-to-ctrl a b x (po-next S l (read-uninitial S l a (flag-class S 1 a x)) h);
     casdep = λ {a} {b} {c} h p. casdep-to a b c h p;

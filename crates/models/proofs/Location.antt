@@ -1,13 +1,13 @@
 -- One location: what rules 1, 2 and SC-per-location give.
 use mathlib.Core.Logic.{inl, inr}
 use mathlib.Core.Path.{subst}
-use Rattle.models.specs.Steps.{Plus, one, cons, stay, step}
+use Rattle.models.specs.Steps.{Plus, one, cons}
 use Rattle.models.specs.Recording.{W}
 use Rattle.models.specs.Graph.{Graph}
 use Rattle.models.specs.Term.{fr, po-loc, rfₑ, rf, rmw, opt, _⨾_, ⟦_⟧}
 use Rattle.models.specs.Armv8.{scPerLoc}
 use Rattle.models.specs.Rules.{ARMv8, Rule1, Rule2, Rule3}
-use Rattle.models.proofs.Closure.{join, flat, Weak, weak-join}
+use Rattle.models.proofs.Closure.{join, collapse, mapped, Weak, weak-step, weak-join}
 use Rattle.models.proofs.Formed.{Formed}
 
 module _ {E : Type 0} (G : Graph E) where
@@ -17,27 +17,27 @@ module _ {E : Type 0} (G : Graph E) where
     by-co : {a b : E} → G .co a b → Com a b
     by-fr : {a b c : E} → G .rf b a → G .co b c → Com a c
 
-  pub com-step : {a b : E} → Com a b → ⟦ scPerLoc ⟧ G a b
+module _ {E : Type 0} {G : Graph E} where
+  pub com-step : {a b : E} → Com G a b → ⟦ scPerLoc ⟧ G a b
   com-step (by-rf h) = inl (inl (inr h))
   com-step (by-co h) = inr h
   com-step (by-fr {b = w} h k) = inl (inr (w, h, k))
 
   module _ (f : Formed G) (coherent : Rule3 ARMv8 G) where
-    pub com-loc : {a b : E} → Com a b → G .loc a b
+    pub com-loc : {a b : E} → Com G a b → G .loc a b
     com-loc (by-rf h) = f .rf-loc h
     com-loc (by-co h) = f .co-loc h
     com-loc (by-fr h k) = f .loc-trans (f .loc-sym (f .rf-loc h)) (f .co-loc k)
 
-    pub coms-loc : {a b : E} → Plus Com a b → G .loc a b
-    coms-loc (one h) = com-loc h
-    coms-loc (cons h p) = f .loc-trans (com-loc h) (coms-loc p)
+    pub coms-loc : {a b : E} → Plus (Com G) a b → G .loc a b
+    coms-loc p = collapse (λ a b c. f .loc-trans) (mapped (λ a b. com-loc) p)
 
     -- Communication does not come back by itself, nor along po.
-    pub no-com-ring : {a : E} → Plus Com a a → ⊥
-    no-com-ring {a} p = coherent a (flat (λ x y h. one (com-step h)) p)
+    pub no-com-ring : {a : E} → Plus (Com G) a a → ⊥
+    no-com-ring {a} p = coherent a (mapped (λ x y. com-step) p)
 
-    pub no-po-com : {a b : E} → G .po a b → Plus Com b a → ⊥
-    no-po-com {a} {b} h p = coherent a (cons (inl (inl (inl (h, f .loc-sym (coms-loc p))))) (flat (λ x y k. one (com-step k)) p))
+    pub no-po-com : {a b : E} → G .po a b → Plus (Com G) b a → ⊥
+    no-po-com {a} {b} h p = coherent a (cons (inl (inl (inl (h, f .loc-sym (coms-loc p))))) (mapped (λ x y. com-step) p))
 
     module _ (total : Rule2 G) where
       -- Two writes of one location in po are so in co.
@@ -60,11 +60,10 @@ module _ {E : Type 0} (G : Graph E) where
           ]
 
       -- Release sequences within an order that holds co, external rf and rmw.
-      module _ (decided : (a b : E) → Dec (G .po a b)) (O : E → E → Type 0) (O-co : (a b : E) → G .co a b → O a b) (O-rfe : (a b : E) → ⟦ rfₑ ⟧ G a b → O a b) (O-rmw : (a b : E) → G .rmw a b → O a b) where
+      module _ (decided : (a b : E) → Dec (G .po a b)) {O : E → E → Type 0} (O-co : (a b : E) → G .co a b → O a b) (O-rfe : (a b : E) → ⟦ rfₑ ⟧ G a b → O a b) (O-rmw : (a b : E) → G .rmw a b → O a b) where
         -- Optional po-loc between writes.
         pub loc-writes : {a b : E} → G .set W a → G .set W b → ⟦ opt po-loc ⟧ G a b → Weak (Plus O) a b
-        loc-writes v w (stay e) = stay tt
-        loc-writes v w (step {a} {b} h) = step (one (O-co a b (po-co v w (h .1) (h .0))))
+        loc-writes {a} {b} v w l = weak-step (λ h. O-co a b (po-co v w (h .1) (h .0))) l
 
         pub rf-rmw : {a b c : E} → G .rf a b → G .rmw b c → Plus O a c
         rf-rmw {a} {b} {c} h k = elim (decided a b) [

@@ -6,36 +6,36 @@ use Prim.Native.Nat.{ℕ}
 use native.Mathlib.Omega.{arith}
 use lib.Dec.{T, eqb, eqb→eq, eqb-refl}
 use Rattle.models.specs.Recording.{Recording, event, ofClass, ofMode, flagged, read, write, fence, fenceOf, acquireFence, releaseFence, access, sameLocation, coStep, SetName, R, W, F, Racq, Rex, Wrel, Wstrong, Facq, Frel, Fsc, Fld, Fsy, Fisb, member}
-use Rattle.models.proofs.Tests.{and-intro, and-left, and-right, or-left, or-right, or-cases}
+use Rattle.relation.proofs.Truth.{T-and, T-and-left, T-and-right, T-or-left, T-or-right, T-or}
 
 pub eq-test : (m n : ℕ) → m ≡ n → T (eqb m n)
 eq-test m n p = subst (λ x. T (eqb m x)) p (eqb-refl m)
 
 -- A test with an equation beside it.
 pub with-eq : (b : Bool) (m n : ℕ) → T b → m ≡ n → T (b && eqb m n)
-with-eq b m n h p = and-intro b (eqb m n) h (eq-test m n p)
+with-eq b m n h p = T-and b (eqb m n) h (eq-test m n p)
 
 module _ {E : Type 0} (r : Recording E) where
   pub initial-event : (e : E) → T (r .initial e) → T (event r e)
   unfolding event
-  initial-event e h = or-left (r .initial e) (r .recorded e) h
+  initial-event e h = T-or-left (r .initial e) (r .recorded e) h
 
   pub recorded-event : (e : E) → T (r .recorded e) → T (event r e)
   unfolding event
-  recorded-event e h = or-right (r .initial e) (r .recorded e) h
+  recorded-event e h = T-or-right (r .initial e) (r .recorded e) h
 
   pub event-cases : (e : E) → T (event r e) → T (r .initial e) ⊎ T (r .recorded e)
   unfolding event
-  event-cases e h = or-cases (r .initial e) (r .recorded e) h
+  event-cases e h = T-or (r .initial e) (r .recorded e) h
 
   -- Events of a class, of a mode, with flag 1.
   pub class-event : (k : ℕ) (e : E) → T (ofClass r k e) → T (event r e)
   unfolding ofClass
-  class-event k e h = and-left (event r e) (eqb (r .class e) k) h
+  class-event k e h = T-and-left (event r e) (eqb (r .class e) k) h
 
   pub class-is : (k : ℕ) (e : E) → T (ofClass r k e) → r .class e ≡ k
   unfolding ofClass
-  class-is k e h = eqb→eq (r .class e) k (and-right (event r e) (eqb (r .class e) k) h)
+  class-is k e h = eqb→eq (r .class e) k (T-and-right (event r e) (eqb (r .class e) k) h)
 
   pub class-intro : (k : ℕ) (e : E) → T (event r e) → r .class e ≡ k → T (ofClass r k e)
   unfolding ofClass
@@ -46,11 +46,11 @@ module _ {E : Type 0} (r : Recording E) where
 
   pub mode-class : (k m : ℕ) (e : E) → T (ofMode r k m e) → T (ofClass r k e)
   unfolding ofMode
-  mode-class k m e h = and-left (ofClass r k e) (eqb (r .mode e) m) h
+  mode-class k m e h = T-and-left (ofClass r k e) (eqb (r .mode e) m) h
 
   pub mode-is : (k m : ℕ) (e : E) → T (ofMode r k m e) → r .mode e ≡ m
   unfolding ofMode
-  mode-is k m e h = eqb→eq (r .mode e) m (and-right (ofClass r k e) (eqb (r .mode e) m) h)
+  mode-is k m e h = eqb→eq (r .mode e) m (T-and-right (ofClass r k e) (eqb (r .mode e) m) h)
 
   pub mode-intro : (k m : ℕ) (e : E) → T (ofClass r k e) → r .mode e ≡ m → T (ofMode r k m e)
   unfolding ofMode
@@ -58,41 +58,41 @@ module _ {E : Type 0} (r : Recording E) where
 
   pub flag-class : (k : ℕ) (e : E) → T (flagged r k e) → T (ofClass r k e)
   unfolding flagged
-  flag-class k e h = and-left (ofClass r k e) (eqb (r .flag e) 1) h
+  flag-class k e h = T-and-left (ofClass r k e) (eqb (r .flag e) 1) h
 
   pub flag-is : (k : ℕ) (e : E) → T (flagged r k e) → r .flag e ≡ 1
   unfolding flagged
-  flag-is k e h = eqb→eq (r .flag e) 1 (and-right (ofClass r k e) (eqb (r .flag e) 1) h)
+  flag-is k e h = eqb→eq (r .flag e) 1 (T-and-right (ofClass r k e) (eqb (r .flag e) 1) h)
 
   pub flag-intro : (k : ℕ) (e : E) → T (ofClass r k e) → r .flag e ≡ 1 → T (flagged r k e)
   unfolding flagged
   flag-intro k e h p = with-eq (ofClass r k e) (r .flag e) 1 h p
 
-  modes-fence : (l m n : ℕ) (e : E) → T (fenceOf r l e || fenceOf r m e || fenceOf r n e) → T (fence r e)
-  modes-fence l m n e h = elim (or-cases (fenceOf r l e || fenceOf r m e) (fenceOf r n e) h) [
-    | inl k ↦ elim (or-cases (fenceOf r l e) (fenceOf r m e) k) [ inl x ↦ mode-class 3 l e x | inr x ↦ mode-class 3 m e x ]
-    | inr k ↦ mode-class 3 n e k
+  -- A fence of one of three modes.
+  by-mode : {P : Type 0} (l m n : ℕ) (e : E) → (T (fenceOf r l e) → P) → (T (fenceOf r m e) → P) → (T (fenceOf r n e) → P)
+      → T (fenceOf r l e || fenceOf r m e || fenceOf r n e) → P
+  by-mode l m n e f g i h = elim (T-or (fenceOf r l e || fenceOf r m e) (fenceOf r n e) h) [
+    | inl k ↦ elim (T-or (fenceOf r l e) (fenceOf r m e) k) [ inl x ↦ f x | inr x ↦ g x ]
+    | inr k ↦ i k
   ]
 
   pub acquire-fence : (e : E) → T (acquireFence r e) → T (fence r e)
   unfolding acquireFence
-  acquire-fence e h = modes-fence 1 3 4 e h
+  acquire-fence e h = by-mode 1 3 4 e (mode-class 3 1 e) (mode-class 3 3 e) (mode-class 3 4 e) h
 
   pub release-fence : (e : E) → T (releaseFence r e) → T (fence r e)
   unfolding releaseFence
-  release-fence e h = modes-fence 2 3 4 e h
+  release-fence e h = by-mode 2 3 4 e (mode-class 3 2 e) (mode-class 3 3 e) (mode-class 3 4 e) h
 
   -- A release fence is not of mode 1.
   pub release-fence-mode : (e : E) → T (releaseFence r e) → r .mode e ≡ 1 → ⊥
   unfolding releaseFence
-  release-fence-mode e h p = elim (or-cases (fenceOf r 2 e || fenceOf r 3 e) (fenceOf r 4 e) h) [
-    | inl k ↦ elim (or-cases (fenceOf r 2 e) (fenceOf r 3 e) k) [ inl x ↦ omega (arith, mode-is 3 2 e x) | inr x ↦ omega (arith, mode-is 3 3 e x) ]
-    | inr k ↦ omega (arith, mode-is 3 4 e k)
-  ]
+  release-fence-mode e h p =
+      by-mode 2 3 4 e (λ x. omega (arith, mode-is 3 2 e x)) (λ x. omega (arith, mode-is 3 3 e x)) (λ x. omega (arith, mode-is 3 4 e x)) h
 
   pub sc-release : (e : E) → T (fenceOf r 4 e) → T (releaseFence r e)
   unfolding releaseFence
-  sc-release e h = or-right (fenceOf r 2 e || fenceOf r 3 e) (fenceOf r 4 e) h
+  sc-release e h = T-or-right (fenceOf r 2 e || fenceOf r 3 e) (fenceOf r 4 e) h
 
   pub member-event : (s : SetName) (e : E) → T (member r s e) → T (event r e)
   member-event R e h = class-event 1 e h
@@ -112,34 +112,34 @@ module _ {E : Type 0} (r : Recording E) where
   -- Accesses and locations.
   pub access-cases : (e : E) → T (access r e) → T (read r e) ⊎ T (write r e)
   unfolding access
-  access-cases e h = or-cases (read r e) (write r e) h
+  access-cases e h = T-or (read r e) (write r e) h
 
   pub read-access : (e : E) → T (read r e) → T (access r e)
   unfolding access
-  read-access e h = or-left (read r e) (write r e) h
+  read-access e h = T-or-left (read r e) (write r e) h
 
   pub write-access : (e : E) → T (write r e) → T (access r e)
   unfolding access
-  write-access e h = or-right (read r e) (write r e) h
+  write-access e h = T-or-right (read r e) (write r e) h
 
   pub access-event : (e : E) → T (access r e) → T (event r e)
   access-event e h = elim (access-cases e h) [ inl k ↦ class-event 1 e k | inr k ↦ class-event 2 e k ]
 
   pub same-intro : (a b : E) → T (access r a) → T (access r b) → r .location a ≡ r .location b → T (sameLocation r a b)
   unfolding sameLocation
-  same-intro a b h k p = with-eq (access r a && access r b) (r .location a) (r .location b) (and-intro (access r a) (access r b) h k) p
+  same-intro a b h k p = with-eq (access r a && access r b) (r .location a) (r .location b) (T-and (access r a) (access r b) h k) p
 
   pub same-first : (a b : E) → T (sameLocation r a b) → T (access r a)
   unfolding sameLocation
-  same-first a b h = and-left (access r a) (access r b) (and-left (access r a && access r b) (eqb (r .location a) (r .location b)) h)
+  same-first a b h = T-and-left (access r a) (access r b) (T-and-left (access r a && access r b) (eqb (r .location a) (r .location b)) h)
 
   pub same-second : (a b : E) → T (sameLocation r a b) → T (access r b)
   unfolding sameLocation
-  same-second a b h = and-right (access r a) (access r b) (and-left (access r a && access r b) (eqb (r .location a) (r .location b)) h)
+  same-second a b h = T-and-right (access r a) (access r b) (T-and-left (access r a && access r b) (eqb (r .location a) (r .location b)) h)
 
   pub same-location : (a b : E) → T (sameLocation r a b) → r .location a ≡ r .location b
   unfolding sameLocation
-  same-location a b h = eqb→eq (r .location a) (r .location b) (and-right (access r a && access r b) (eqb (r .location a) (r .location b)) h)
+  same-location a b h = eqb→eq (r .location a) (r .location b) (T-and-right (access r a && access r b) (eqb (r .location a) (r .location b)) h)
 
   -- A step of co: a link, or an initial write before a recorded one of its location.
   pub data CoStep (a b : E) : Type 0 where
@@ -148,15 +148,15 @@ module _ {E : Type 0} (r : Recording E) where
 
   pub step-cases : (a b : E) → T (coStep r a b) → CoStep a b
   unfolding coStep
-  step-cases a b h = elim (or-cases (r .link 2 a b) (r .initial a && r .recorded b && write r b && sameLocation r a b) h) [
+  step-cases a b h = elim (T-or (r .link 2 a b) (r .initial a && r .recorded b && write r b && sameLocation r a b) h) [
     | inl k ↦ linked k
-    | inr k ↦ (let l = and-left (r .initial a && r .recorded b && write r b) (sameLocation r a b) k in let i = and-left (r .initial a && r .recorded b) (write r b) l in
-        initially (and-left (r .initial a) (r .recorded b) i) (and-right (r .initial a) (r .recorded b) i) (and-right (r .initial a && r .recorded b) (write r b) l) (and-right (r .initial a && r .recorded b && write r b) (sameLocation r a b) k))
+    | inr k ↦ (let l = T-and-left (r .initial a && r .recorded b && write r b) (sameLocation r a b) k in let i = T-and-left (r .initial a && r .recorded b) (write r b) l in
+        initially (T-and-left (r .initial a) (r .recorded b) i) (T-and-right (r .initial a) (r .recorded b) i) (T-and-right (r .initial a && r .recorded b) (write r b) l) (T-and-right (r .initial a && r .recorded b && write r b) (sameLocation r a b) k))
   ]
 
   pub step-intro : (a b : E) → CoStep a b → T (coStep r a b)
   unfolding coStep
-  step-intro a b (linked h) = or-left (r .link 2 a b) (r .initial a && r .recorded b && write r b && sameLocation r a b) h
+  step-intro a b (linked h) = T-or-left (r .link 2 a b) (r .initial a && r .recorded b && write r b && sameLocation r a b) h
   step-intro a b (initially i c w l) =
-      or-right (r .link 2 a b) (r .initial a && r .recorded b && write r b && sameLocation r a b)
-      (and-intro (r .initial a && r .recorded b && write r b) (sameLocation r a b) (and-intro (r .initial a && r .recorded b) (write r b) (and-intro (r .initial a) (r .recorded b) i c) w) l)
+      T-or-right (r .link 2 a b) (r .initial a && r .recorded b && write r b && sameLocation r a b)
+      (T-and (r .initial a && r .recorded b && write r b) (sameLocation r a b) (T-and (r .initial a && r .recorded b) (write r b) (T-and (r .initial a) (r .recorded b) i c) w) l)

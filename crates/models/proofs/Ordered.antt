@@ -36,10 +36,10 @@ module _ {E : Type 0} (G : Graph E) (O : E → E → Type 0) where
     Pairs = ⟦ opt po-loc ⨾ rf ⨾ rmw ⟧ G
 
     writes : {a b : E} → G .set W a → G .set W b → ⟦ opt po-loc ⟧ G a b → Weak (Plus O) a b
-    writes = loc-writes G f coherent total decided O (o .co) (o .rfe) (o .rmw)
+    writes = loc-writes f coherent total decided (o .co) (o .rfe) (o .rmw)
 
     pairs : {a b : E} → G .set W a → Plus Pairs a b → Plus O a b
-    pairs = pair-steps G f coherent total decided O (o .co) (o .rfe) (o .rmw)
+    pairs = pair-steps f coherent total decided (o .co) (o .rfe) (o .rmw)
 
     loc-po : {a b c : E} → ⟦ opt po-loc ⟧ G a b → G .po b c → G .po a c
     loc-po (stay e) h = h
@@ -53,7 +53,7 @@ module _ {E : Type 0} (G : Graph E) (O : E → E → Type 0) where
           | yes i ↦ inl (loc-po l (f .po-trans a₁ r c i q))
           | no n ↦ inr (weak-join (writes v (f .rf-write h) l) (cons (o .rfe a₁ r (h, n)) (one (o .read-fence (f .rf-read h) q x))))
         ]
-    pair-fence v l h k (inr q) x = inr (weak-join (writes v (f .rf-write h) l) (join (rf-rmw G f coherent total decided O (o .co) (o .rfe) (o .rmw) h k) q))
+    pair-fence v l h k (inr q) x = inr (weak-join (writes v (f .rf-write h) l) (join (rf-rmw f coherent total decided (o .co) (o .rfe) (o .rmw) h k) q))
 
     -- Pairs before a later fence: all within the thread, or ordered.
     pairs-fence : {a b c : E} → G .set W a → Plus Pairs a b → G .po b c → G .set F c → G .po a c ⊎ Plus O a c
@@ -99,7 +99,7 @@ module _ {E : Type 0} (G : Graph E) (O : E → E → Type 0) where
     observed : {a b c d : E} → ⟦ rs ⟧ G a b → ⟦ rfᵢ ∪ opt po-loc ⨾ rfₑ ⟧ G b c → Acquires c d → G .po a d ⊎ Plus O a d
     observed {a} {b} {c} {d} (inl (_, on v, (_, p, on w))) (inl (h, i)) k = inl (f .po-trans a b d (p .0) (inside-po i k))
     observed {a} {b} (inl (_, on v, (_, p, on w))) (inr (b₁, l, (h, n))) k =
-        inr (outside (cons (o .co a b (po-co G f coherent total v w (p .1) (p .0))) (weak-join (writes w (f .rf-write h) l) (one (o .rfe b₁ _ (h, n))))) (f .rf-read h) k)
+        inr (outside (cons (o .co a b (po-co f coherent total v w (p .1) (p .0))) (weak-join (writes w (f .rf-write h) l) (one (o .rfe b₁ _ (h, n))))) (f .rf-read h) k)
     observed (inr (_, on v, stay e)) (inl (h, i)) k = inl (inside-po i k)
     observed (inr (_, on v, stay e)) (inr (b₁, l, (h, n))) k = inr (outside (weak-join (writes v (f .rf-write h) l) (one (o .rfe b₁ _ (h, n)))) (f .rf-read h) k)
     observed (inr (_, on v, step p)) (inl (h, i)) k = pairs-inside v p h i k
@@ -162,7 +162,7 @@ module _ {E : Type 0} (G : Graph E) (O : E → E → Type 0) where
     entry-fence (inl r) h x = one (o .read-fence r h x)
     entry-fence (inr y) h x = one (o .out-fence y h)
 
-    fence-good : {a c : E} → G .po a c → G .set F c → G .set R a ⊎ G .set W a ⊎ G .set F a → Good G f O a c
+    fence-good : {a c : E} → G .po a c → G .set F c → G .set R a ⊎ G .set W a ⊎ G .set F a → Good G O a c
     fence-good h x (inl r) = direct (one (o .read-fence r h x))
     fence-good {a} {c} h x (inr (inl w)) = behind w (λ u e k. entry-fence e (f .po-trans u a c k h) x)
     fence-good h x (inr (inr y)) = direct (one (o .out-fence y h))
@@ -171,19 +171,19 @@ module _ {E : Type 0} (G : Graph E) (O : E → E → Type 0) where
     strong-entry (inl r) k s h w = o .strong r k s h w
     strong-entry {u} {a} {c} (inr y) k s h w = one (o .out-fence y (f .po-trans u a c k h))
 
-    bob-good : (a b : E) → ⟦ bob ⟧ G a b → Good G f O a b
+    bob-good : (a b : E) → ⟦ bob ⟧ G a b → Good G O a b
     bob-good a b (inl (inl (inl (inl (_, h, on w))))) = direct (one (o .into-release h w))
     bob-good a b (inl (inl (inl (inr (_, on q, h))))) = direct (one (o .out-acquire q h))
     bob-good a b (inl (inl (inr (_, h, on x)))) = fence-good h x (f .classes (f .po-source h))
     bob-good a b (inl (inr (_, on x, h))) = direct (one (o .out-fence x h))
-    bob-good a b (inr (_, on w, (_, h, on v))) = direct (one (o .co a b (po-co G f coherent total (f .release-write w) v (h .1) (h .0))))
+    bob-good a b (inr (_, on w, (_, h, on v))) = direct (one (o .co a b (po-co f coherent total (f .release-write w) v (h .1) (h .0))))
 
-    ar-good : (a b : E) → ⟦ ar ⟧ G a b → Good G f O a b
+    ar-good : (a b : E) → ⟦ ar ⟧ G a b → Good G O a b
     ar-good a b (inl (inl (inl (inl (inl h))))) = direct (one (o .rfe a b h))
     ar-good a b (inl (inl (inl (inl (inr h))))) = bob-good a b h
     ar-good a b (inl (inl (inl (inr h)))) = direct (o .ppo a b h)
     ar-good a b (inl (inl (inr ((c, h, k), p)))) = direct (cons (o .co a c (h .0)) (one (o .rfe c b k)))
-    ar-good a b (inl (inr h)) = direct (psc-order G O L Q All f decided coherent synced a b h)
+    ar-good a b (inl (inr h)) = direct (psc-order f decided coherent synced a b h)
     ar-good a b (inr (_, on s, (_, h, on w))) = behind (f .strong-write s) (λ u e k. strong-entry e k s h w)
 
     -- IMM allows the graph.
@@ -191,7 +191,7 @@ module _ {E : Type 0} (G : Graph E) (O : E → E → Type 0) where
     imm-allows complete atomic = record {
       rule1 = complete;
       rule2 = total;
-      rule3 = hb-coherent G O L Q All f decided coherent synced;
+      rule3 = hb-coherent f decided coherent synced;
       rule4 = atomic;
-      rule5 = ar-acyclic G f O ar-good (o .acyclic);
+      rule5 = ar-acyclic f ar-good (o .acyclic);
     }

@@ -1,6 +1,6 @@
 -- Theorem 4.5 of 003: where ARMv8 allows a graph that corresponds to an IMM graph, IMM allows that graph.
 use mathlib.Core.Logic.{_⊎_, inl, inr}
-use Rattle.models.specs.Steps.{Plus, one, cons, on, stay, step}
+use Rattle.models.specs.Steps.{Plus, one, cons, on, stay}
 use Rattle.models.specs.Recording.{R, W, Rex, Fld, Fsy}
 use Rattle.models.specs.Graph.{Graph}
 use Rattle.models.specs.Term.{fr, rfᵢ, _∪_, ⟦_⟧}
@@ -10,7 +10,7 @@ use Rattle.models.specs.Rules.{IMM, ARMv8, Rule1, Rule2, Rule3, Rule4, A
 use Rattle.models.proofs.Closure.{mapped}
 use Rattle.models.proofs.Formed.{Formed}
 use Rattle.models.proofs.Corresponds.{Corresponds}
-use Rattle.models.proofs.Rings.{chains-po}
+use Rattle.models.proofs.Rings.{Deps, by-data, by-ctrl, by-addr, by-addr-po, by-casdep, by-exclusive, deps-clause, chains-po}
 use Rattle.models.proofs.Ordered.{Ordered, imm-allows}
 use Rattle.models.proofs.Barriers.{Ob, ob-rfe, ob-fre, ob-coe, ob-addr, ob-addr-po, ob-data-rfi, ob-data-coi, ob-ctrl, ob-rmw, ob-pair, ob-ld, ob-acquire, ob-release, coi, fri, Ord, plain, into-sy, into-ld, out-sy, out-ld, no-ord-ring}
 
@@ -40,40 +40,53 @@ module _ {E : Type 0} (G A : Graph E) (g : Formed G) (decided : (a b : E) → De
       m .rule4 a d (c .rmw a d .0 h, (b, ((w, c .rf w a .0 r, c .co w b .0 k), external (g .read-event (g .rf-read r)) eb n), (c .co b d .0 l, external eb (g .write-event (g .co-target l)) o)))
 
   -- Dependencies start at reads.
-  deps-read : {a b : E} → ⟦ deps ⟧ G a b → G .set R a
-  deps-read (inl (inl (inl (inl h)))) = g .data-read h
-  deps-read (inl (inl (inl (inr h)))) = g .ctrl-read h
-  deps-read (inl (inl (inr (x, h, o)))) = g .addr-read h
-  deps-read (inl (inr h)) = g .casdep-read h
-  deps-read (inr (_, on x, h)) = g .exclusive-read x
+  deps-read : {a b : E} → Deps G a b → G .set R a
+  deps-read (by-data h) = g .data-read h
+  deps-read (by-ctrl h) = g .ctrl-read h
+  deps-read (by-addr h) = g .addr-read h
+  deps-read (by-addr-po h k) = g .addr-read h
+  deps-read (by-casdep h) = g .casdep-read h
+  deps-read (by-exclusive x h) = g .exclusive-read x
 
   exclusive-ob : {a b : E} → G .set Rex a → G .po a b → G .set W b → Ob A a b
   exclusive-ob x h w = elim (c .exclusive x h) [ inl k ↦ ob-ctrl k (c .write w) | inr k ↦ ob-rmw (k .0) ]
 
   -- One dependency into a write.
-  dep-ob : {a b : E} → ⟦ deps ⟧ G a b → G .set W b → Ob A a b
-  dep-ob {a} {b} (inl (inl (inl (inl h)))) w = ob-data-coi (c .«data» a b .0 h) (stay tt)
-  dep-ob (inl (inl (inl (inr h)))) w = ob-ctrl (c .ctrl h) (c .write w)
-  dep-ob {a} (inl (inl (inr (x, h, stay e)))) w = ob-addr (c .addr a x .0 h)
-  dep-ob {a} (inl (inl (inr (x, h, step k)))) w = ob-addr-po (c .addr a x .0 h) (c .po-to k) (c .write w)
-  dep-ob (inl (inr h)) w = absurd (g .read-write (g .exclusive-read (g .casdep-exclusive h)) w)
-  dep-ob (inr (_, on x, h)) w = exclusive-ob x h w
+  dep-ob : {a b : E} → Deps G a b → G .set W b → Ob A a b
+  dep-ob {a} {b} (by-data h) w = ob-data-coi (c .«data» a b .0 h) (stay tt)
+  dep-ob (by-ctrl h) w = ob-ctrl (c .ctrl h) (c .write w)
+  dep-ob {a} {b} (by-addr h) w = ob-addr (c .addr a b .0 h)
+  dep-ob {a} (by-addr-po {b = x} h k) w = ob-addr-po (c .addr a x .0 h) (c .po-to k) (c .write w)
+  dep-ob (by-casdep h) w = absurd (g .read-write (g .exclusive-read (g .casdep-exclusive h)) w)
+  dep-ob (by-exclusive x h) w = exclusive-ob x h w
+
+  -- One that is not data, then po into a write.
+  dep-po-ob : {a b d : E} → Deps G a b → G .po b d → G .set W d → G .«data» a b ⊎ Ob A a d
+  dep-po-ob (by-data h) p w = inl h
+  dep-po-ob (by-ctrl h) p w = inr (ob-ctrl (f .ctrl-closed (c .ctrl h) (c .po-to p)) (c .write w))
+  dep-po-ob (by-addr {a} {b} h) p w = inr (ob-addr-po (c .addr a b .0 h) (c .po-to p) (c .write w))
+  dep-po-ob {d = d} (by-addr-po {a} {b = x} {c = b} h k) p w = inr (ob-addr-po (c .addr a x .0 h) (c .po-to (g .po-trans x b d k p)) (c .write w))
+  dep-po-ob (by-casdep h) p w = inr (ob-ctrl (c .casdep h p) (c .write w))
+  dep-po-ob {d = d} (by-exclusive {a} {b} x h) p w = inr (exclusive-ob x (g .po-trans a b d h p) w)
+
+  -- What follows data, which ends in a write, is internal rf.
+  data-rf : {a b d : E} → G .«data» a b → ⟦ deps ∪ rfᵢ ⟧ G b d → ⟦ rfᵢ ⟧ G b d
+  data-rf h (inl k) = absurd (g .read-write (deps-read (deps-clause k)) (g .data-write h))
+  data-rf h (inr k) = k
 
   -- Dependencies and internal rf from a read to a write. All but data reach the write at once, since the rest lies in po.
   chain-ob : {a b : E} → G .set R a → Plus (⟦ deps ∪ rfᵢ ⟧ G) a b → G .set W b → Plus (Ob A) a b
-  chain-ob r (one (inl h)) w = one (dep-ob h w)
+  chain-ob r (one (inl h)) w = one (dep-ob (deps-clause h) w)
   chain-ob r (one (inr h)) w = absurd (g .read-write (g .rf-read (h .0)) w)
   chain-ob r (cons (inr h) p) w = absurd (g .read-write r (g .rf-write (h .0)))
-  chain-ob r (cons (inl (inl (inl (inl (inl h))))) (one (inl k))) w = absurd (g .read-write (deps-read k) (g .data-write h))
-  chain-ob r (cons (inl (inl (inl (inl (inl h))))) (one (inr k))) w = absurd (g .read-write (g .rf-read (k .0)) w)
-  chain-ob r (cons (inl (inl (inl (inl (inl h))))) (cons (inl k) p)) w = absurd (g .read-write (deps-read k) (g .data-write h))
-  chain-ob r (cons {a} {b} (inl (inl (inl (inl (inl h))))) (cons {b = d} (inr k) p)) w =
-      cons (ob-data-rfi (c .«data» a b .0 h) (c .rf b d .0 (k .0)) (c .po-to (k .1))) (chain-ob (g .rf-read (k .0)) p w)
-  chain-ob r (cons (inl (inl (inl (inl (inr h))))) p) w = one (ob-ctrl (f .ctrl-closed (c .ctrl h) (c .po-to (chains-po G g p))) (c .write w))
-  chain-ob r (cons {a} (inl (inl (inl (inr (x, h, stay e))))) p) w = one (ob-addr-po (c .addr a x .0 h) (c .po-to (chains-po G g p)) (c .write w))
-  chain-ob r (cons {a} {b} {c = d} (inl (inl (inl (inr (x, h, step k))))) p) w = one (ob-addr-po (c .addr a x .0 h) (c .po-to (g .po-trans x b d k (chains-po G g p))) (c .write w))
-  chain-ob r (cons (inl (inl (inr h))) p) w = one (ob-ctrl (c .casdep h (chains-po G g p)) (c .write w))
-  chain-ob r (cons {a} {b} {c = d} (inl (inr (_, on x, h))) p) w = one (exclusive-ob x (g .po-trans a b d h (chains-po G g p)) w)
+  chain-ob r (cons (inl h) (one k)) w = elim (dep-po-ob (deps-clause h) (chains-po g (one k)) w) [
+    | inl l ↦ absurd (g .read-write (g .rf-read (data-rf l k .0)) w)
+    | inr o ↦ one o
+  ]
+  chain-ob r (cons {a} {b} (inl h) (cons {b = d} k p)) w = elim (dep-po-ob (deps-clause h) (chains-po g (cons k p)) w) [
+    | inl l ↦ (let i = data-rf l k in cons (ob-data-rfi (c .«data» a b .0 l) (c .rf b d .0 (i .0)) (c .po-to (i .1))) (chain-ob (g .rf-read (i .0)) p w))
+    | inr o ↦ one o
+  ]
 
   -- The enlarged order of A is an order for G.
   fence-out : {a b : E} → A .set Fld a ⊎ A .set Fsy a → A .po a b → Ord A a b

@@ -8,10 +8,10 @@ use Rattle.models.specs.Term.{⟨_⟩, po, rf, rmw, opt, _⨾_, _∪_, p
 use Rattle.models.specs.Imm.{rs, sw, ar}
 use Rattle.models.specs.Tso.{node, tso}
 use Rattle.models.specs.Rules.{IMM, TSO, Rule5, Allowed}
-use Rattle.models.proofs.Closure.{flat, mapped, collapse, Weak, weak-join, join-weak}
+use Rattle.models.proofs.Closure.{flat, mapped, collapse, Weak, weak-step, weak-join, join-weak}
 use Rattle.models.proofs.Formed.{Formed}
 use Rattle.models.proofs.Synced.{HB, along, across, HB-trans, no-HB-ring, Synced, hb-coherent, psc-order}
-use Rattle.models.proofs.Rings.{bob-po, chains-po}
+use Rattle.models.proofs.Rings.{Lies, in-po, by-rf, by-psc, ar-lies}
 
 module _ {E : Type 0} (G : Graph E) where
   -- What has steps: a read, a write or an SC fence.
@@ -56,8 +56,7 @@ module _ {E : Type 0} (G : Graph E) where
     releasing (inr (_, on x, h)) = step (one (inl h))
 
     local : {a b : E} → ⟦ opt po-loc ⟧ G a b → Weak (Plus Step) a b
-    local (stay e) = stay tt
-    local (step h) = step (one (inl (h .0)))
+    local l = weak-step (λ h. inl (h .0)) l
 
     pair : (a b : E) → ⟦ opt po-loc ⨾ rf ⨾ rmw ⟧ G a b → Plus Step a b
     pair a d (b, l, (c, h, k)) = weak-join (local l) (cons (inr h) (one (inl (f .rmw-po k))))
@@ -120,7 +119,7 @@ module _ {E : Type 0} (G : Graph E) where
       ]
 
       steps-HB : {a b : E} → Plus Step a b → HB G Tso L Q a b
-      steps-HB p = collapse (HB-trans G Tso L Q f joins) (mapped (λ x y. elim [ inl h ↦ along h | inr h ↦ rf-HB h ]) p)
+      steps-HB p = collapse (HB-trans f joins) (mapped (λ x y. elim [ inl h ↦ along h | inr h ↦ rf-HB h ]) p)
 
       synced : Synced G Tso L Q Node
       synced = record {
@@ -141,23 +140,23 @@ module _ {E : Type 0} (G : Graph E) where
       }
 
       -- So do all steps of ar: psc is ordered from SC fence to SC fence, rfe is a step of rf, and the others lie in po.
+      lies-HB : {a b : E} → Lies G a b → HB G Tso L Q a b
+      lies-HB (in-po h) = along h
+      lies-HB (by-rf h) = rf-HB (h .0)
+      lies-HB {a} {b} (by-psc (_, on c, (x, h, (y, e, (_, k, on d))))) =
+          across (stay tt) (inr c) (psc-order f decided (m .rule3) synced a b (a, on c, (x, h, (y, e, (b, k, on d))))) (inr d) (stay tt)
+
       ar-HB : (a b : E) → ⟦ ar ⟧ G a b → HB G Tso L Q a b
-      ar-HB a b (inl (inl (inl (inl (inl h))))) = rf-HB (h .0)
-      ar-HB a b (inl (inl (inl (inl (inr h))))) = along (bob-po G f a b h)
-      ar-HB a b (inl (inl (inl (inr (_, on r, (_, p, on w)))))) = along (chains-po G f p)
-      ar-HB a b (inl (inl (inr (h, p)))) = along p
-      ar-HB a b (inl (inr (_, on c, (x, h, (y, e, (_, k, on d)))))) =
-          across (stay tt) (inr c) (psc-order G Tso L Q Node f decided (m .rule3) synced a b (a, on c, (x, h, (y, e, (b, k, on d))))) (inr d) (stay tt)
-      ar-HB a b (inr (_, on s, (_, h, on w))) = along h
+      ar-HB a b h = lies-HB (ar-lies f h)
 
       no-thin-air : Rule5 IMM G
-      no-thin-air a p = no-HB-ring G Tso L Q f joins acyclic a (collapse (HB-trans G Tso L Q f joins) (mapped ar-HB p))
+      no-thin-air a p = no-HB-ring f joins acyclic a (collapse (HB-trans f joins) (mapped ar-HB p))
 
       pub tso-theorem : Allowed IMM G
       tso-theorem = record {
         rule1 = m .rule1;
         rule2 = m .rule2;
-        rule3 = hb-coherent G Tso L Q Node f decided (m .rule3) synced;
+        rule3 = hb-coherent f decided (m .rule3) synced;
         rule4 = m .rule4;
         rule5 = no-thin-air;
       }

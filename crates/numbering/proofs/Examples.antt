@@ -10,8 +10,8 @@ use borrow.Author.Tests.{eqb-true, eq-eqb}
 use lib.Dec.{eqb, ltb}
 use lib.ListN.{length, getD, List·getD-eq-default}
 use Rattle.relation.specs.Rel.{Set, some, below}
-use Rattle.relation.proofs.Truth.{same-test}
-use Rattle.relation.proofs.Meaning.{and-left, and-right, and-both, some-sound, some-complete, mem-below}
+use Rattle.relation.proofs.Truth.{same-test, and-left, and-right, and-both}
+use Rattle.relation.proofs.Meaning.{some-sound, some-complete, mem-below}
 use Rattle.models.specs.Rules.{first}
 use Rattle.layout.specs.Layout.{events, linkByte, threads}
 use Rattle.layout.specs.Chains.{each, allOf, follow, nextOf, startOf, head, linksInto}

@@ -8,8 +8,7 @@ use native.Mathlib.Omega.{arith}
 use borrow.Author.Tests.{eqb-true, eq-eqb, leb-true, le-leb, lt-ltb, ltb-true}
 use lib.Dec.{eqb, leb, ltb}
 use Rattle.relation.specs.Rel.{Set}
-use Rattle.relation.proofs.Truth.{is-false, same-test, by-test}
-use Rattle.relation.proofs.Meaning.{and-left, and-right, and-both}
+use Rattle.relation.proofs.Truth.{is-false, same-test, by-test, and-left, and-right, and-both}
 use Rattle.layout.specs.Layout.{events, threads}
 use Rattle.layout.specs.Decode.{isRecorded}
 use Rattle.translation.specs.Contents.{Contents}
@@ -46,11 +45,11 @@ module _ {s : Set} (n : Renumbering s) where
 -- The numbers 1 to n.
 pub numbers-is : (n e : ℕ) → numbersTo n e ≡ true → (1 ≤ e) × (e ≤ n)
 unfolding numbersTo
-numbers-is n e p = (leb-true 1 e (and-left (leb 1 e) (leb e n) p), leb-true e n (and-right (leb 1 e) (leb e n) p))
+numbers-is n e p = search (and-left, and-right, leb-true)
 
 pub numbers-intro : (n e : ℕ) → 1 ≤ e → e ≤ n → numbersTo n e ≡ true
 unfolding numbersTo
-numbers-intro n e h g = and-both (leb 1 e) (leb e n) (le-leb 1 e h) (le-leb e n g)
+numbers-intro n e h g = search (and-both, le-leb)
 
 pub numbers-fewer : (m n : ℕ) → m ≤ n → (e : ℕ) → numbersTo n e ≡ false → numbersTo m e ≡ false
 numbers-fewer m n h e p =

@@ -1,6 +1,6 @@
 -- The translations of contents that differ by a renumbering differ by one: an inserted fence goes with its strong write.
 use mathlib.Core.Path.{_≡_, refl, sym, ap, ap₂, subst, _∙_}
-use mathlib.Core.Bool.{Bool, true, false, _&&_, false≢true}
+use mathlib.Core.Bool.{Bool, true, false, _&&_, false≢true, and-false}
 use mathlib.Core.Logic.{_⊎_, inl, inr}
 use Prim.Native.Nat.{ℕ, suc, _<_, _≤_}
 use native.Mathlib.Omega.{arith}
@@ -8,9 +8,7 @@ use native.Mathlib.Decide.{decLe}
 use borrow.Author.Tests.{lt-ltb, le-ltb, le-leb, lt-leb}
 use lib.Dec.{eqb, leb, ltb}
 use Rattle.relation.specs.Rel.{count}
-use Rattle.relation.proofs.Truth.{same-test, by-test}
-use Rattle.relation.proofs.SetLaws.{and-false}
-use Rattle.relation.proofs.Meaning.{and-left, and-right, and-both}
+use Rattle.relation.proofs.Truth.{same-test, by-test, and-left, and-right, and-both}
 use Rattle.relation.proofs.Counting.{count-lt, count-injective, count-inject}
 use Rattle.layout.specs.Layout.{threads}
 use Rattle.translation.specs.Contents.{Contents}
@@ -97,7 +95,7 @@ module _ {s c : Contents} (w : Renumbers s c) (given : Sourced s) where
   unfolding renewed isNew
   renew-fence v p =
       let a = law.inserted-above s v p in
-      let new = and-both (ltb (s .events) (inserted s v)) (leb (inserted s v) (newEvents s)) (lt-ltb _ _ (a .0)) (le-leb _ _ (a .1)) in
+      let new : isNew s (inserted s v) ≡ true = search (and-both, lt-ltb, le-leb) in
       rw (new, renewed) (ap (λ (x : ℕ). inserted c (n .to x)) (law.fenced-inserted s (omega (arith, given .few, law.more-events s)) v p))
 
   -- An event of the translation is one of the source's records or an inserted fence.

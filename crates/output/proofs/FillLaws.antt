@@ -59,8 +59,8 @@ pub fills-none : (k : ℕ) (bytes out : List ℕ) (r : Filled) (left : List ℕ)
 fills-none k bytes out r left p w = subst (λ (j : ℕ). Fills j bytes out r left) (sym p) w
 
 -- A refusal by another cause does not depend on the bytes.
-pub fills-other : (k j n : ℕ) (x y out : List ℕ) (r : Filled) (left : List ℕ) → k ≡ suc n → j ≡ suc n → Fills k x out r left → Fills j y out r left
-fills-other k j n x y out r left p q w =
+pub fills-other : {k j n : ℕ} {x y out : List ℕ} {r : Filled} {left : List ℕ} → k ≡ suc n → j ≡ suc n → Fills k x out r left → Fills j y out r left
+fills-other {k} {j} {n} {x} {y} {out} p q w =
     let a = fills-refused k x out (suc n) (sym p) (λ z. omega arith) in
     let b = fills-refused j y out (suc n) (sym q) (λ z. omega arith) in
     record { answer = w .answer ∙ sym (a .answer) ∙ b .answer; output = w .output ∙ sym (a .output) ∙ b .output }

@@ -62,6 +62,23 @@ placed-placed d at x y place h e =
     ∙ append-assoc (take at d) x (y ++ drop (at + length (x ++ y)) d)
     ∙ ap (_++_ (take at d)) (sym (append-assoc x y (drop (at + length (x ++ y)) d)))
 
+-- The bytes stand in the output from a place on, and all else stands as before.
+pub record Placing (out₀ : List ℕ) (at : ℕ) (bytes out : List ℕ) : Type 0 where
+  pub room : at + length bytes ≤ length out₀
+  pub done : out ≡ placed out₀ at bytes
+  pub long : length out ≡ length out₀
+
+pub placing-none : (out : List ℕ) (at : ℕ) (bytes : List ℕ) → bytes ≡ [] → at ≤ length out → Placing out at bytes out
+placing-none out at bytes e h =
+    record { room = omega (arith, ap length e); done = placed-nil out at ∙ ap (placed out at) (sym e); long = refl }
+
+-- Bytes put behind them.
+pub placing-more : {out₀ x out z more : List ℕ} {at place : ℕ} (y : List ℕ) → Placing out₀ at x out → at + length x ≡ place → more ≡ placed out place y
+    → x ++ y ≡ z → at + length z ≤ length out₀ → Placing out₀ at z more
+placing-more {out₀} {x} {z = z} {at = at} {place = place} y w h p q room =
+    let done = p ∙ ap (λ (l : List ℕ). placed l place y) (w .done) ∙ placed-placed out₀ at x y place (w .room) h ∙ ap (placed out₀ at) q in
+    record { room = room; done = done; long = ap length done ∙ length-placed out₀ at z room }
+
 -- What is placed stands behind what stood before it, and at the start where nothing did.
 pub placed-extends : (d : List ℕ) (at : ℕ) (x : List ℕ) (n : ℕ) → at ≤ length d → at + length x ≡ n → take n (placed d at x) ≡ take at d ++ x
 unfolding placed

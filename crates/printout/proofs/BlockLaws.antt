@@ -1,19 +1,19 @@
 -- Laws of a block: the members of a ring as a row, what is legal is shown by one digit each, and the columns of a block.
 use mathlib.Core.Path.{_≡_, refl, sym, ap, ap₂, _∙_}
-use mathlib.Core.Bool.{Bool, true, false, _&&_, _||_, false≢true}
+use mathlib.Core.Bool.{Bool, true, false, _&&_, _||_, false≢true, or-false}
 use mathlib.Core.List.{List, [], _∷_, _++_}
 use mathlib.Core.Logic.{inl, inr}
 use Prim.Native.Nat.{ℕ, zero, suc, _+_, _%_, _<_, _≤_}
 use native.Mathlib.Numerals.{add-one}
 use native.Mathlib.Omega.{arith}
+use native.Mathlib.Decide.{ℕ-discrete}
 use borrow.Author.Tests.{eqb-true, eq-eqb, ne-eqb, leb-true, ltb-true}
-use lib.Dec.{eqb, leb, ltb}
+use lib.Dec.{eqb, ltb}
 use lib.ListN.{length, getD, take}
 use lib.Seq.{take-suc, take-all}
 use Rattle.relation.specs.Rel.{Set, empty, single, union}
 use Rattle.relation.specs.Bits.{bit}
-use Rattle.relation.proofs.Meaning.{and-left, and-right, or-either}
-use Rattle.relation.proofs.SetLaws.{or-false}
+use Rattle.relation.proofs.Truth.{and-left, and-right, or-either}
 use Rattle.models.specs.Recording.{Recording}
 use Rattle.layout.specs.Layout.{Side, side, events, locations}
 use Rattle.layout.specs.Chains.{among}
@@ -64,48 +64,33 @@ module _ (s : Side) (L mode flag location value : ℕ) (few : L ≤ 8) where
   read-digits : readLegal mode flag && ltb location L ≡ true → OneDigit 1 mode flag location
   unfolding readLegal
   read-digits p =
-      let m = and-left (leb mode 1 && leb flag 1) (ltb location L) p in
-      record {
-        few-classes = omega arith;
-        few-modes = omega (arith, leb-true mode 1 (and-left (leb mode 1) (leb flag 1) m));
-        few-flags = leb-true flag 1 (and-right (leb mode 1) (leb flag 1) m);
-        few-locations = omega (arith, ltb-true location L (and-right (leb mode 1 && leb flag 1) (ltb location L) p));
-      }
+      let m : mode ≤ 1 = search (and-left, and-right, leb-true) in
+      let g : flag ≤ 1 = search (and-left, and-right, leb-true) in
+      let l : location < L = search (and-right, ltb-true) in
+      omega arith
 
   write-digits : writeLegal s mode flag && ltb location L ≡ true → OneDigit 2 mode flag location
   unfolding writeLegal
   write-digits p =
-      let modes = eqb mode 0 || eqb mode 2 in
-      let flags = eqb flag 0 || (eqb flag 1 && s) in
-      let m = and-left (modes && flags) (ltb location L) p in
-      record {
-        few-classes = omega arith;
-        few-modes = elim (or-either (eqb mode 0) (eqb mode 2) (and-left modes flags m)) [
-          | inl e ↦ omega (arith, eqb-true mode 0 e)
-          | inr e ↦ omega (arith, eqb-true mode 2 e)
-        ];
-        few-flags = elim (or-either (eqb flag 0) (eqb flag 1 && s) (and-right modes flags m)) [
-          | inl e ↦ omega (arith, eqb-true flag 0 e)
-          | inr e ↦ omega (arith, eqb-true flag 1 (and-left (eqb flag 1) s e))
-        ];
-        few-locations = omega (arith, ltb-true location L (and-right (modes && flags) (ltb location L) p));
-      }
+      let l : location < L = search (and-right, ltb-true) in
+      let m : mode ≤ 7 = elim (or-either (eqb mode 0) (eqb mode 2) (search (and-left, and-right))) [ inl e ↦ omega (arith, eqb-true) | inr e ↦ omega (arith, eqb-true) ] in
+      let g : flag ≤ 1 = elim (or-either (eqb flag 0) (eqb flag 1 && s) (search (and-left, and-right))) [
+        | inl e ↦ omega (arith, eqb-true)
+        | inr e ↦ (let one : flag ≡ 1 = search (and-left, eqb-true) in omega arith)
+      ] in
+      omega arith
 
   fence-digits : fenceLegal s mode flag && (eqb location 0 && eqb value 0) ≡ true → OneDigit 3 mode flag location
   unfolding fenceLegal fenceMode
   fence-digits p =
-      let zeros = eqb location 0 && eqb value 0 in
-      let m = and-left (fenceMode s mode && eqb flag 0) zeros p in
-      record {
-        few-classes = omega arith;
-        few-modes = modes s (and-left (fenceMode s mode) (eqb flag 0) m);
-        few-flags = omega (arith, eqb-true flag 0 (and-right (fenceMode s mode) (eqb flag 0) m));
-        few-locations = omega (arith, eqb-true location 0 (and-left (eqb location 0) (eqb value 0) (and-right (fenceMode s mode && eqb flag 0) zeros p)));
-      }
+      let m = modes s (search (and-left, and-right)) in
+      let g : flag ≡ 0 = search (and-left, and-right, eqb-true) in
+      let l : location ≡ 0 = search (and-left, and-right, eqb-true) in
+      omega arith
     where
       modes : (r : Side) → fenceMode r mode ≡ true → mode ≤ 7
-      modes true q = omega (arith, leb-true mode 4 (and-right (leb 1 mode) (leb mode 4) q))
-      modes false q = leb-true mode 7 (and-right (leb 5 mode) (leb mode 7) q)
+      modes true q = (let m : mode ≤ 4 = search (and-right, leb-true) in omega arith)
+      modes false q = search (and-right, leb-true)
 
   one-digit : (class : ℕ) → legal s L class mode flag location value ≡ true → OneDigit class mode flag location
   unfolding legal
@@ -167,14 +152,21 @@ module _ (r : Recording ℕ) (e : ℕ) where
   place-access d value q l p =
       sym (rw (ne-eqb (r .class e) 3 d, place, sym p) (ap (λ (v : List ℕ). digit l ∷ 32 ∷ v) (sym q ∙ listed-as value 5 (ap length (q ∙ columns5 (r .value e))))))
 
-  pub block-is : (ring number at : List ℕ) (c m g t : ℕ) → e < 100 → number ≡ aligned 5 e → length at ≡ 7 → at ≡ place r e
+  place-size : length (place r e) ≡ 7
+  place-size =
+      elim (ℕ-discrete (r .class e) 3) [
+        | yes p ↦ sym (ap length (place-fence p))
+        | no d ↦ sym (ap length (place-access d _ refl _ refl))
+      ]
+
+  pub block-is : (ring : List ℕ) {number at : List ℕ} {c m g t : ℕ} → e < 100 → number ≡ aligned 5 e → at ≡ place r e
       → c ≡ letter (r .class e) → m ≡ r .mode e → g ≡ r .flag e → t ≡ star ring e
       → (getD number 3 0 ∷ getD number 4 0 ∷ 32 ∷ c ∷ digit m ∷ digit g ∷ 32
       ∷ getD at 0 0 ∷ getD at 1 0 ∷ getD at 2 0 ∷ getD at 3 0 ∷ getD at 4 0 ∷ getD at 5 0 ∷ getD at 6 0 ∷ 32 ∷ t ∷ 32 ∷ 32 ∷ 32 ∷ 32 ∷ [])
       ≡ block r ring e
   unfolding block
-  block-is ring number at c m g t few en long ep ec em eg et =
+  block-is ring {at = at} few en ep ec em eg et =
       rw (ec, em, eg, et, en, columns5 e)
       (sym (rw (columns2 e few, block)
       (ap (λ (l : List ℕ). column 10 e ∷ digit (e % 10) ∷ 32 ∷ letter (r .class e) ∷ digit (r .mode e) ∷ digit (r .flag e) ∷ 32 ∷ (l ++ (32 ∷ star ring e ∷ spaces 4)))
-      (sym ep ∙ listed-as at 7 long))))
+      (sym ep ∙ listed-as at 7 (ap length ep ∙ place-size)))))

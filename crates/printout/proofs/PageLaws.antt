@@ -1,10 +1,10 @@
 -- Laws of a page: its blocks and lines one behind the other, and its length.
-use mathlib.Core.Path.{_≡_, refl, sym, ap, _∙_}
+use mathlib.Core.Path.{_≡_, refl, sym, ap, subst, _∙_}
 use mathlib.Core.List.{List, [], _∷_, _++_, append-assoc, append-nil}
 use Prim.Native.Nat.{ℕ, zero, suc, _+_, _*_, _<_, _≤_}
 use native.Mathlib.Numerals.{add-one}
 use native.Mathlib.Omega.{arith}
-use native.Mathlib.Decide.{decLt, ℕ-discrete}
+use native.Mathlib.Decide.{decLt}
 use borrow.Author.Tests.{lt-ltb, le-ltb}
 use lib.ListN.{length, getD, length-append}
 use Rattle.models.specs.Recording.{Recording}
@@ -14,24 +14,17 @@ use Rattle.layout.specs.Decode.{decode}
 use Rattle.recording.specs.Causes.{refusal}
 use Rattle.recording.proofs.Accepted.{sized}
 use Rattle.output.specs.Output.{placed}
-use Rattle.output.proofs.OutputLaws.{placed-nil, length-placed, placed-placed}
+use Rattle.output.proofs.OutputLaws.{length-placed, Placing, placing-none, placing-more}
 use Rattle.decimal.specs.Decimal.{spaces}
-use Rattle.printout.specs.Page.{blockWidth, lineSize, place, block, blockAt, blocks, line, lines, longest, pageOf, threadLists, page}
+use Rattle.printout.specs.Page.{blockWidth, lineSize, block, blockAt, blocks, line, lines, longest, pageOf, threadLists, page}
 use Rattle.printout.specs.Table.{Members}
-use Rattle.printout.proofs.BlockLaws.{place-fence, place-access, block-is}
+use Rattle.printout.proofs.BlockLaws.{block-is}
 use Rattle.printout.proofs.TableLaws.{event-at}
 
 -- The block of an event has 20 columns.
 module _ (r : Recording ℕ) where
-  place-size : (e : ℕ) → length (place r e) ≡ 7
-  place-size e =
-      elim (ℕ-discrete (r .class e) 3) [
-        | yes p ↦ sym (ap length (place-fence r e p))
-        | no d ↦ sym (ap length (place-access r e d _ refl _ refl))
-      ]
-
   block-size : (ring : List ℕ) (e : ℕ) → e < 100 → length (block r ring e) ≡ blockWidth
-  block-size ring e h = sym (ap length (block-is r e ring _ (place r e) _ _ _ _ h refl (place-size e) refl refl refl refl refl))
+  block-size ring e h = sym (ap length (block-is r e ring h refl refl refl refl refl refl))
 
   -- The block of a thread in line k.
   module _ (ring : List ℕ) (k : ℕ) (l : List ℕ) where
@@ -92,70 +85,56 @@ pub record BlocksWritten (f stars out₀ : List ℕ) (k t : ℕ) (out : List ℕ
   pub within : t ≤ threads
   pub room : lineSize threads * (k + 1) ≤ length out₀
   pub long : length out ≡ length out₀
-  pub done : (ring : List ℕ) → Members ring stars → out ≡ placed out₀ (lineSize threads * k) (blocks (decode f) ring k (threadLists f t))
+  pub placing : (ring : List ℕ) → Members ring stars → Placing out₀ (lineSize threads * k) (blocks (decode f) ring k (threadLists f t)) out
 
 -- The first n lines are written, and there is room for `all`.
 pub record LinesWritten (f stars out₀ : List ℕ) (all n : ℕ) (out : List ℕ) : Type 0 where
   pub room : lineSize threads * all ≤ length out₀
   pub long : length out ≡ length out₀
-  pub done : (ring : List ℕ) → Members ring stars → out ≡ placed out₀ 0 (lines (decode f) ring n (threadLists f threads))
+  pub placing : (ring : List ℕ) → Members ring stars → Placing out₀ 0 (lines (decode f) ring n (threadLists f threads)) out
 
 module _ (f stars out₀ : List ℕ) where
   pub blocks-none : (k : ℕ) → lineSize threads * (k + 1) ≤ length out₀ → BlocksWritten f stars out₀ k 0 out₀
   unfolding threadLists blocks
-  blocks-none k h = record { within = omega arith; room = h; long = refl; done = λ ring w. placed-nil out₀ (lineSize threads * k) }
+  blocks-none k h = record { within = omega arith; room = h; long = refl; placing = λ ring w. placing-none out₀ (lineSize threads * k) _ refl (omega arith) }
 
   pub lines-none : (all : ℕ) → lineSize threads * all ≤ length out₀ → LinesWritten f stars out₀ all 0 out₀
   unfolding lines
-  lines-none all h = record { room = h; long = refl; done = λ ring w. placed-nil out₀ 0 }
+  lines-none all h = record { room = h; long = refl; placing = λ ring w. placing-none out₀ 0 _ refl (omega arith) }
 
   module _ (loads : refusal f ≡ 0) where
-    -- A piece behind the first.
-    behind : (d x y e out : List ℕ) (at place : ℕ) → d ≡ placed out at x → e ≡ placed d place y → at + length x ≤ length out → at + length x ≡ place
-        → e ≡ placed out at (x ++ y)
-    behind d x y e out at place p q h g = q ∙ ap (λ (l : List ℕ). placed l place y) p ∙ placed-placed out at x y place h g
-
-    pub blocks-written : (k t : ℕ) (out bytes more : List ℕ) → BlocksWritten f stars out₀ k t out → t < threads → length bytes ≡ blockWidth
+    pub blocks-written : {k t : ℕ} {out bytes more : List ℕ} → BlocksWritten f stars out₀ k t out → t < threads → length bytes ≡ blockWidth
         → ((ring : List ℕ) → Members ring stars → bytes ≡ blockAt (decode f) ring k (thread f t)) → more ≡ placed out (lineSize threads * k + blockWidth * t) bytes
         → BlocksWritten f stars out₀ k (t + 1) more
-    blocks-written k t out bytes more w h size e p =
+    blocks-written {k} {t} {out} {bytes} w h size e p =
         record {
           within = omega arith;
           room = w .room;
           long = ap length p ∙ length-placed out (lineSize threads * k + blockWidth * t) bytes (omega (arith, w .room, w .long)) ∙ w .long;
-          done = λ ring m.
-              let first = blocks (decode f) ring k (threadLists f t) in
-              let long = blocks-size f loads ring k t (omega arith) in
-              behind out first bytes more out₀ (lineSize threads * k) (lineSize threads * k + blockWidth * t) (w .done ring m) p (omega (arith, w .room, long)) (omega (arith, long))
-              ∙ ap (placed out₀ (lineSize threads * k)) (ap (λ (l : List ℕ). first ++ l) (e ring m) ∙ sym (blocks-more f ring k t));
+          placing = λ ring m. placing-more bytes (w .placing ring m) (omega (arith, blocks-size f loads ring k t (omega arith))) p
+              (ap (_++_ (blocks (decode f) ring k (threadLists f t))) (e ring m) ∙ sym (blocks-more f ring k t)) (omega (arith, w .room, blocks-size f loads ring k (t + 1) (omega arith)));
         }
 
-    pub line-written : (k t : ℕ) (out left : List ℕ) → BlocksWritten f stars out₀ k t out → threads ≤ t
+    pub line-written : {k t : ℕ} {out left : List ℕ} → BlocksWritten f stars out₀ k t out → threads ≤ t
         → left ≡ placed out (lineSize threads * k + blockWidth * threads) (10 ∷ [])
         → (ring : List ℕ) → Members ring stars → left ≡ placed out₀ (lineSize threads * k) (line (decode f) ring k (threadLists f threads))
     unfolding line
-    line-written k t out left w h p ring m =
+    line-written {k} {t} {out} w h p ring m =
         let all : t ≡ threads = omega (arith, w .within) in
-        let first = blocks (decode f) ring k (threadLists f threads) in
-        let long = blocks-size f loads ring k threads (omega arith) in
-        behind out first (10 ∷ []) left out₀ (lineSize threads * k) (lineSize threads * k + blockWidth * threads)
-        (w .done ring m ∙ ap (λ (n : ℕ). placed out₀ (lineSize threads * k) (blocks (decode f) ring k (threadLists f n))) all) p (omega (arith, w .room, long)) (omega (arith, long))
+        let placing = subst (λ (n : ℕ). Placing out₀ (lineSize threads * k) (blocks (decode f) ring k (threadLists f n)) out) all (w .placing ring m) in
+        placing-more (10 ∷ []) placing (omega (arith, blocks-size f loads ring k threads (omega arith))) p refl (omega (arith, w .room, line-size f loads ring k)) .done
 
-    pub lines-written : (all n : ℕ) (out more : List ℕ) → LinesWritten f stars out₀ all n out → n < all → length more ≡ length out
+    pub lines-written : {all n : ℕ} {out more : List ℕ} → LinesWritten f stars out₀ all n out → n < all → length more ≡ length out
         → ((ring : List ℕ) → Members ring stars → more ≡ placed out (lineSize threads * n) (line (decode f) ring n (threadLists f threads)))
         → LinesWritten f stars out₀ all (n + 1) more
     unfolding lines
-    lines-written all n out more w h size e =
-        record {
+    lines-written {all} {n} w h size e =
+        rw (add-one n) (record {
           room = w .room;
           long = size ∙ w .long;
-          done = λ ring m.
-              let first = lines (decode f) ring n (threadLists f threads) in
-              let long = lines-size f loads ring n in
-              behind out first _ more out₀ 0 (lineSize threads * n) (w .done ring m) (e ring m) (omega (arith, w .room, long)) (omega (arith, long))
-              ∙ ap (λ (i : ℕ). placed out₀ 0 (lines (decode f) ring i (threadLists f threads))) (sym (add-one n));
-        }
+          placing = λ ring m. placing-more _ (w .placing ring m) (omega (arith, lines-size f loads ring n)) (e ring m) refl (omega (arith, w .room, lines-size f loads ring (suc n)));
+        })
 
-    pub lines-all : (all n : ℕ) (out : List ℕ) → LinesWritten f stars out₀ all n out → n ≡ all
+    pub lines-all : {all n : ℕ} {out : List ℕ} → LinesWritten f stars out₀ all n out → n ≡ all
         → (ring : List ℕ) → Members ring stars → out ≡ placed out₀ 0 (lines (decode f) ring all (threadLists f threads))
-    lines-all all n out w e ring m = w .done ring m ∙ ap (λ (i : ℕ). placed out₀ 0 (lines (decode f) ring i (threadLists f threads))) e
+    lines-all w e ring m = w .placing ring m .done ∙ ap (λ (i : ℕ). placed out₀ 0 (lines (decode f) ring i (threadLists f threads))) e

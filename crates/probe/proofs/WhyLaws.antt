@@ -136,35 +136,17 @@ stored-as rule number bytes wanted out filled r left e b w a =
 
 -- The answer by the number of the model.
 module _ (model : ℕ) (f out : List ℕ) (r : ℕ) (left : List ℕ) where
-  another : (m n : ℕ) → model ≡ m → model ≡ n → (m ≡ n → ⊥) → ⊥
-  another m n e h d = d (sym e ∙ h)
-
   pub why-imm : model ≡ 1 → Explains source IMM immRings imm.Judged f out r left → Why model f out r left
   why-imm e w =
-      record {
-        imm = λ h. w;
-        armv8 = λ h. absurd (another 1 2 e h (λ x. omega arith));
-        tso = λ h. absurd (another 1 3 e h (λ x. omega arith));
-        other = λ d. absurd (d e);
-      }
+      record { imm = λ h. w; armv8 = λ h. absurd (omega (arith, e, h)); tso = λ h. absurd (omega (arith, e, h)); other = λ b. absurd (b e) }
 
   pub why-armv8 : model ≡ 2 → Explains chip ARMv8 armv8Rings armv8.Judged f out r left → Why model f out r left
   why-armv8 e w =
-      record {
-        imm = λ h. absurd (another 2 1 e h (λ x. omega arith));
-        armv8 = λ h. w;
-        tso = λ h. absurd (another 2 3 e h (λ x. omega arith));
-        other = λ c d. absurd (d e);
-      }
+      record { imm = λ h. absurd (omega (arith, e, h)); armv8 = λ h. w; tso = λ h. absurd (omega (arith, e, h)); other = λ b c. absurd (c e) }
 
   pub why-tso : model ≡ 3 → Explains source TSO tsoRings tso.Judged f out r left → Why model f out r left
   why-tso e w =
-      record {
-        imm = λ h. absurd (another 3 1 e h (λ x. omega arith));
-        armv8 = λ h. absurd (another 3 2 e h (λ x. omega arith));
-        tso = λ h. w;
-        other = λ b c d. absurd (d e);
-      }
+      record { imm = λ h. absurd (omega (arith, e, h)); armv8 = λ h. absurd (omega (arith, e, h)); tso = λ h. w; other = λ b c d. absurd (d e) }
 
   pub why-other : (model ≡ 1 → ⊥) → (model ≡ 2 → ⊥) → (model ≡ 3 → ⊥) → Stored (causeForNone f) 0 [] out r left → Why model f out r left
   why-other b c d w = record { imm = λ h. absurd (b h); armv8 = λ h. absurd (c h); tso = λ h. absurd (d h); other = λ x y z. w }

@@ -3,6 +3,7 @@
 
 mod why;
 
+use lines::Model;
 use output::Filled;
 use recording::causes;
 use verdict::Answer;
@@ -21,6 +22,7 @@ ghost use Rattle.verdict.specs.Answer.{refusalOf, ruleOf};
 ghost use Rattle.output.specs.declared.Filled.the-variants.{Written};
 ghost use Rattle.translation.specs.Translation.{translation};
 ghost use Rattle.printout.specs.Page.{page};
+ghost use Rattle.verdicts.specs.ByModel.{sideFor, modelFor, JudgedFor};
 ghost use Rattle.probe.specs.Calls.{coded, codedAnswer, Stored, Reported, Reports, Printed, Why};
 
 // An answer: the number of the refusal, that of the broken rule, and how many bytes were written.
@@ -76,13 +78,20 @@ fn reported(v: Verdict, out: &mut [u8]) -> u64
     answered(number[1], output::fill(out, &at[..n]))
 }
 
+// Puts the events that the verdict of a model on a file shows at the start of the output.
+fn judged(model: Model, file: &[u8], out: &mut [u8]) -> u64
+    ensures { λ r. ⌜ Reports (sideFor model) (modelFor model) (JudgedFor model) (now (file .entry)) (now (out .entry)) r (now (out .exit)) ⌝ }
+{
+    reported(verdicts::verdict(model, file), out)
+}
+
 // The IMM verdict on a source file; the events that are shown of it, at most 64, fill the output's start. Refused with a number, 1 to 13,
 // the output stays as it was.
 #[no_mangle]
 pub extern "C" fn probe_imm(file: &[u8], out: &mut [u8]) -> u64
     ensures { λ r. ⌜ Reports source IMM imm.Judged (now (file .entry)) (now (out .entry)) r (now (out .exit)) ⌝ }
 {
-    reported(imm::file::verdict(file), out)
+    judged(Model::Source, file, out)
 }
 
 // The ARMv8 verdict on a chip file; the events that are shown of it, at most 64, fill the output's start. Refused with a number, 1 to 13,
@@ -91,7 +100,7 @@ pub extern "C" fn probe_imm(file: &[u8], out: &mut [u8]) -> u64
 pub extern "C" fn probe_armv8(file: &[u8], out: &mut [u8]) -> u64
     ensures { λ r. ⌜ Reports chip ARMv8 armv8.Judged (now (file .entry)) (now (out .entry)) r (now (out .exit)) ⌝ }
 {
-    reported(armv8::file::verdict(file), out)
+    judged(Model::Chip, file, out)
 }
 
 // The x86-TSO verdict on a source file; the events that are shown of it, at most 64, fill the output's start. Refused with a number, 1 to 13,
@@ -100,7 +109,7 @@ pub extern "C" fn probe_armv8(file: &[u8], out: &mut [u8]) -> u64
 pub extern "C" fn probe_tso(file: &[u8], out: &mut [u8]) -> u64
     ensures { λ r. ⌜ Reports source TSO tso.Judged (now (file .entry)) (now (out .entry)) r (now (out .exit)) ⌝ }
 {
-    reported(tso::file::verdict(file), out)
+    judged(Model::Tso, file, out)
 }
 
 // Writes the translation of a source file, at most 1320 bytes, to the start of the output. Refused with a number, 1 to 13, the output
@@ -141,13 +150,13 @@ pub extern "C" fn probe_why(file: &[u8], model: u64, out: &mut [u8]) -> u64
     ensures { λ r. ⌜ Why model (now (file .entry)) (now (out .entry)) r (now (out .exit)) ⌝ }
 {
     if model == 1 {
-        return why::of_imm(file, out);
+        return why::of_model(Model::Source, file, out);
     }
     if model == 2 {
-        return why::of_armv8(file, out);
+        return why::of_model(Model::Chip, file, out);
     }
     if model == 3 {
-        return why::of_tso(file, out);
+        return why::of_model(Model::Tso, file, out);
     }
     why::of_none(file, out)
 }

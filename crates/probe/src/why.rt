@@ -3,21 +3,16 @@
 use crate::answered;
 use crate::coded;
 use clause::Steps;
-use layout::kind;
+use lines::Model;
 use recording::causes;
 use verdict::Verdict;
 ghost use mathlib.Core.Path.{_≡_};
 ghost use mathlib.Core.List.{[]};
 ghost use Prim.Native.Nat.{_*_, _≤_};
 ghost use lib.ListN.{length, take};
-ghost use Rattle.layout.specs.Layout.{source, chip};
-ghost use Rattle.models.specs.Rules.{IMM, ARMv8, TSO};
-ghost use Rattle.models.specs.Why.{immRings, armv8Rings, tsoRings};
-ghost use Rattle.imm.specs.Judged as imm;
-ghost use Rattle.armv8.specs.Judged as armv8;
-ghost use Rattle.tso.specs.Judged as tso;
 ghost use Rattle.verdict.specs.Answer.{ruleOf};
 ghost use Rattle.clause.specs.Steps.{ring};
+ghost use Rattle.verdicts.specs.ByModel.{sideFor, modelFor, clausesFor, JudgedFor};
 ghost use Rattle.probe.specs.Calls.{Stored, bytesOf, Explains, causeForNone};
 
 // The first n steps, one behind the other.
@@ -59,38 +54,14 @@ pub fn of_none(file: &[u8], out: &mut [u8]) -> u64
     coded(11, 0, 0)
 }
 
-// Of the IMM verdict on a source file.
-pub fn of_imm(file: &[u8], out: &mut [u8]) -> u64
-    ensures { λ r. ⌜ Explains source IMM immRings imm.Judged (now (file .entry)) (now (out .entry)) r (now (out .exit)) ⌝ }
+// Of the verdict of a model.
+pub fn of_model(model: Model, file: &[u8], out: &mut [u8]) -> u64
+    ensures { λ r. ⌜ Explains (sideFor model) (modelFor model) (clausesFor model) (JudgedFor model) (now (file .entry)) (now (out .entry)) r (now (out .exit)) ⌝ }
 {
-    let k = causes::cause(file, kind::SOURCE);
+    let k = verdicts::cause(model, file);
     if k != 0 {
         return coded(k, 0, 0);
     }
-    let v = imm::file::loaded(file);
-    explained(v, imm::file::explained(file, v), out)
-}
-
-// Of the ARMv8 verdict on a chip file.
-pub fn of_armv8(file: &[u8], out: &mut [u8]) -> u64
-    ensures { λ r. ⌜ Explains chip ARMv8 armv8Rings armv8.Judged (now (file .entry)) (now (out .entry)) r (now (out .exit)) ⌝ }
-{
-    let k = causes::cause(file, kind::CHIP);
-    if k != 0 {
-        return coded(k, 0, 0);
-    }
-    let v = armv8::file::loaded(file);
-    explained(v, armv8::file::explained(file, v), out)
-}
-
-// Of the x86-TSO verdict on a source file.
-pub fn of_tso(file: &[u8], out: &mut [u8]) -> u64
-    ensures { λ r. ⌜ Explains source TSO tsoRings tso.Judged (now (file .entry)) (now (out .entry)) r (now (out .exit)) ⌝ }
-{
-    let k = causes::cause(file, kind::SOURCE);
-    if k != 0 {
-        return coded(k, 0, 0);
-    }
-    let v = tso::file::loaded(file);
-    explained(v, tso::file::explained(file, v), out)
+    let v = verdicts::loaded(model, file);
+    explained(v, verdicts::explained(model, file, v), out)
 }

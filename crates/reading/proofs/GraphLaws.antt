@@ -1,36 +1,31 @@
 -- Laws of the relations of a file as rows and grids.
-use mathlib.Core.Path.{_≡_, refl, sym, ap, ap₂, subst, _∙_, fun-ext}
-use mathlib.Core.Bool.{Bool, true, false, _&&_, _||_}
+use mathlib.Core.Path.{_≡_, refl, sym, ap, ap₂, _∙_, fun-ext}
+use mathlib.Core.Bool.{Bool, true, false, _&&_, _||_, and-false, and-assoc}
 use mathlib.Core.List.{List, [], _∷_}
 use Prim.Native.Nat.{ℕ, zero, suc, _+_, _<_, _≤_}
 use native.Mathlib.Omega.{arith}
 use native.Mathlib.Decide.{ℕ-discrete}
-use borrow.Author.Tests.{eq-eqb, ne-eqb, eqb-true, ltb-true, leb-true}
-use lib.Dec.{eqb, leb, ltb}
-use lib.ListN.{length, getD, set, replicate, length-set}
-use lib.Seq.{getD-set-same, getD-set-other}
+use borrow.Author.Tests.{eq-eqb, ne-eqb, eqb-true}
+use lib.Dec.{eqb}
+use lib.ListN.{getD, set, replicate}
 use Rattle.relation.specs.Rel.{Set, Rel, empty, none, single, union, intersection, product, inverse, either, both}
 use Rattle.relation.specs.Bits.{bit, edge}
 use Rattle.relation.proofs.GridLaws.{Rows, rows-skip}
-use Rattle.relation.proofs.Meaning.{and-left, and-right, and-both}
-use Rattle.relation.proofs.SetLaws.{and-false, upto, upto-none, upto-with, upto-keep, upto-skip, upto-done}
+use Rattle.relation.proofs.SetLaws.{upto, upto-none, upto-with, upto-keep, upto-skip, upto-done}
 use Rattle.models.specs.Recording.{event, ofClass, access, sameLocation, coStep}
-use Rattle.layout.specs.Layout.{events, locations, Sized, Following}
+use Rattle.layout.specs.Layout.{events, Sized, Following}
 use Rattle.layout.specs.Decode.{isRecorded, isInitial, decode}
 use Rattle.reading.specs.Sets.{accessAt, Located, AccessRows, SourcesInto, LinkRows}
-use Rattle.relation.proofs.Truth.{is-false}
-use Rattle.layout.proofs.FieldLaws.{recorded-bounds}
-use Rattle.reading.proofs.LinkLaws.{empty-row}
+use Rattle.relation.proofs.Truth.{is-false, and-left, and-right, and-both}
+use Rattle.layout.proofs.FieldLaws.{recorded-bounds, initial-bounds, initial-below}
+use Rattle.reading.proofs.EightRows.{Eight, eight-none, eight-keep, eight-set}
 
 -- No number from 64 on is an event's.
 pub recorded-out : (f : List ℕ) → Sized f → (e : ℕ) → 64 ≤ e → isRecorded f e ≡ false
 recorded-out f s e h = is-false (isRecorded f e) (λ p. let (a, b) = recorded-bounds f e p in omega (arith, s .most-events))
 
 initial-out : (f : List ℕ) → Sized f → (e : ℕ) → 64 ≤ e → isInitial f e ≡ false
-unfolding isInitial
-initial-out f s e h =
-    is-false (leb 56 e && ltb e (56 + locations f))
-    (λ p. let w = ltb-true e (56 + locations f) (and-right (leb 56 e) (ltb e (56 + locations f)) p) in omega (arith, s .most-locations))
+initial-out f s e h = is-false (isInitial f e) (λ p. let (a, b) = initial-bounds f e p in omega (arith, s .most-locations))
 
 -- What is no event is in no set.
 module _ (f : List ℕ) (e : ℕ) (r : isRecorded f e ≡ false) (i : isInitial f e ≡ false) where
@@ -50,11 +45,6 @@ module _ (f : List ℕ) (e : ℕ) (r : isRecorded f e ≡ false) (i : isInitial 
 gap-recorded : (f : List ℕ) (e : ℕ) → events f < e → isRecorded f e ≡ false
 gap-recorded f e h = is-false (isRecorded f e) (λ p. let (a, b) = recorded-bounds f e p in omega arith)
 
-gap-initial : (f : List ℕ) (e : ℕ) → e < 56 → isInitial f e ≡ false
-unfolding isInitial
-gap-initial f e g =
-    is-false (leb 56 e && ltb e (56 + locations f)) (λ p. let w = leb-true 56 e (and-left (leb 56 e) (ltb e (56 + locations f)) p) in omega arith)
-
 -- The links into what is no record.
 pub link-none : (f : List ℕ) (t b : ℕ) (s : Set) → s ≡ empty → isRecorded f b ≡ false → s ≡ inverse (decode f .link t) b
 unfolding decode inverse empty
@@ -65,7 +55,9 @@ link-out f s t b h = sym (link-none f t b empty refl (recorded-out f s b h))
 
 -- The links into every number, by type.
 pub sources-none : (f : List ℕ) (b : ℕ) → isRecorded f b ≡ false → SourcesInto f b (replicate 8 (replicate 8 0))
-sources-none f b p = record { long = refl; row = λ t h. link-none f t b _ (empty-row 8 t) p }
+sources-none f b p =
+    let w = eight-none {P = λ t s. s ≡ inverse (decode f .link t) b} (λ t. link-none f t b empty refl p) in
+    record { long = refl; row = w .row }
 
 pub link-rows : (f : List ℕ) (e rf co rmw da ad ct ca : List (List ℕ)) → edge rf ≡ inverse (decode f .link 1) → edge co ≡ inverse (decode f .link 2)
     → edge rmw ≡ inverse (decode f .link 3) → edge da ≡ inverse (decode f .link 4) → edge ad ≡ inverse (decode f .link 5)
@@ -89,11 +81,11 @@ unfolding sameLocation none empty
 no-access f e p = fun-ext (λ b. sym (rw p))
 
 location-gap : (f : List ℕ) (e : ℕ) → events f < e → e < 56 → none e ≡ sameLocation (decode f) e
-location-gap f e h g = no-access f e (access-none f e (gap-recorded f e h) (gap-initial f e g))
+location-gap f e h g = no-access f e (access-none f e (gap-recorded f e h) (initial-below f e g))
 
-pub location-on : (f : List ℕ) (n e r : ℕ) (h : List (List ℕ)) → n ≡ events f → Rows (sameLocation (decode f)) none h (e + 1) → Following n e r
+pub location-on : (f : List ℕ) {n e r : ℕ} {h : List (List ℕ)} → n ≡ events f → Following n e r → Rows (sameLocation (decode f)) none h (e + 1)
     → Rows (sameLocation (decode f)) none h r
-location-on f n e r h p w next =
+location-on f {n} {e} {r} {h} p next w =
     rows-skip (sameLocation (decode f)) none h (e + 1) r w (omega (arith, next .above))
     (λ m a b. let g = next .gap m (omega arith) b in location-gap f m (omega (arith, g .0, p)) (g .1))
 
@@ -103,45 +95,36 @@ location-out f s e h = sym (no-access f e (access-none f e (recorded-out f s e h
 
 pub access-gap : (f : List ℕ) (l e : ℕ) → events f < e → e < 56 → accessAt f l e ≡ false
 unfolding accessAt
-access-gap f l e h g = rw (access-none f e (gap-recorded f e h) (gap-initial f e g))
+access-gap f l e h g = rw (access-none f e (gap-recorded f e h) (initial-below f e g))
 
 pub access-out : (f : List ℕ) → Sized f → (l e : ℕ) → 64 ≤ e → accessAt f l e ≡ false
 unfolding accessAt
 access-out f s l e h = rw (access-none f e (recorded-out f s e h) (initial-out f s e h))
 
--- The rows of the locations, one event more at a time.
-pub record Locating (f : List ℕ) (e : ℕ) (h : List (List ℕ)) : Type 0 where
-  pub long : length h ≡ 8
-  pub row : (l : ℕ) → l < 8 → bit (getD h l []) ≡ upto e (accessAt f l)
+-- The rows of the locations, one event more at a time, to the event r that follows it.
+abbrev pub Locating : List ℕ → ℕ → List (List ℕ) → Type 0
+Locating f e = Eight (λ l s. s ≡ upto e (accessAt f l))
 
 pub locating-none : (f : List ℕ) → Locating f 0 (replicate 8 (replicate 8 0))
-locating-none f = record { long = refl; row = λ l h. empty-row 8 l ∙ upto-none (accessAt f l) }
+locating-none f = eight-none (λ l. upto-none (accessAt f l))
 
-module _ (f : List ℕ) (e : ℕ) (h : List (List ℕ)) (w : Locating f e h) (l : ℕ) (at : (m : ℕ) → m < 8 → accessAt f m e ≡ eqb l m) where
-  pub locating-with : (v : List ℕ) → l < 8 → bit v ≡ union (bit (getD h l [])) (single e) → Locating f (e + 1) (set h l v)
-  locating-with v k p =
-      record {
-        long = length-set h l v ∙ w .long;
-        row = λ m g. elim (ℕ-discrete l m) [
-          | yes q ↦ subst (λ (i : ℕ). bit (getD (set h l v) i []) ≡ upto (e + 1) (accessAt f i)) q
-              (ap bit (getD-set-same h l v [] (omega (arith, k, w .long))) ∙ p ∙ upto-with e (accessAt f l) _ (w .row l k) (at l k ∙ eq-eqb l l refl))
-          | no d ↦ ap bit (getD-set-other h l m v [] (λ q. d (sym q))) ∙ upto-keep e (accessAt f m) _ (w .row m g) (at m g ∙ ne-eqb l m d)
-        ];
-      }
+locating-on : (f : List ℕ) {n e r : ℕ} {h : List (List ℕ)} → n ≡ events f → Following n e r → Locating f (e + 1) h → Locating f r h
+locating-on f {n} {e} {r} p next w =
+    eight-keep w (λ l i s q. upto-skip (e + 1) r (accessAt f l) s (omega (arith, next .above)) q
+    (λ j a b. let g = next .gap j (omega arith) b in access-gap f l j (omega (arith, g .0, p)) (g .1)))
 
-  pub locating-keep : 8 ≤ l → Locating f (e + 1) h
-  locating-keep k = record { long = w .long; row = λ m g. upto-keep e (accessAt f m) _ (w .row m g) (at m g ∙ ne-eqb l m (λ q. omega arith)) }
+module _ (f : List ℕ) {n e r l : ℕ} {h : List (List ℕ)} (p : n ≡ events f) (w : Locating f e h) (next : Following n e r)
+    (at : (m : ℕ) → m < 8 → accessAt f m e ≡ eqb l m) where
+  pub locating-with : (v : List ℕ) → l < 8 → bit v ≡ union (bit (getD h l [])) (single e) → Locating f r (set h l v)
+  locating-with v k q =
+      locating-on f p next (eight-set w l v k (q ∙ upto-with e (accessAt f l) _ (w .row l k) (at l k ∙ eq-eqb l l refl))
+      (λ m g d s z. upto-keep e (accessAt f m) s z (at m g ∙ ne-eqb l m d)))
 
-pub locating-on : (f : List ℕ) (n e r : ℕ) (h : List (List ℕ)) → n ≡ events f → Locating f (e + 1) h → Following n e r → Locating f r h
-locating-on f n e r h p w next =
-    record {
-      long = w .long;
-      row = λ l i. upto-skip (e + 1) r (accessAt f l) _ (omega (arith, next .above)) (w .row l i)
-          (λ j a b. let g = next .gap j (omega arith) b in access-gap f l j (omega (arith, g .0, p)) (g .1));
-    }
+  pub locating-keep : 8 ≤ l → Locating f r h
+  locating-keep k = locating-on f p next (eight-keep w (λ m g s z. upto-keep e (accessAt f m) s z (at m g ∙ ne-eqb l m (λ q. omega arith))))
 
-pub locating-all : (f : List ℕ) → Sized f → (e : ℕ) (h : List (List ℕ)) → 64 ≤ e → Locating f e h → AccessRows f h
-locating-all f s e h k w = record { long = w .long; row = λ l i. upto-done e 64 (accessAt f l) _ k (w .row l i) (access-out f s l) }
+pub locating-all : {f : List ℕ} {e : ℕ} {h : List (List ℕ)} → Sized f → 64 ≤ e → Locating f e h → AccessRows f h
+locating-all {f} {e} s k w = record { long = w .long; row = λ l i. upto-done e 64 (accessAt f l) _ k (w .row l i) (access-out f s l) }
 
 -- The location of an event, as the code answers it.
 pub place-none : (f : List ℕ) (e : ℕ) → access (decode f) e ≡ false → (l : ℕ) → l < 8 → accessAt f l e ≡ eqb 8 l
@@ -187,8 +170,5 @@ unfolding either union both intersection product coStep decode
 co-is f i u a c d b g pu pi pa pc pd pg pb =
     let q : a ≡ product (isInitial f) (intersection (isRecorded f) (ofClass (decode f) 2)) = pa ∙ ap₂ product pi pu in
     pb ∙ ap₂ either pc (pg ∙ ap₂ both q pd)
-    ∙ fun-ext (λ x. fun-ext (λ y. ap (λ (z : Bool). decode f .link 2 x y || z) (regroup (isInitial f x) (isRecorded f y) (ofClass (decode f) 2 y) (sameLocation (decode f) x y))))
-  where
-    regroup : (k l m n : Bool) → (k && (l && m)) && n ≡ ((k && l) && m) && n
-    regroup true l m n = refl
-    regroup false l m n = refl
+    ∙ fun-ext (λ x. fun-ext (λ y. ap (λ (z : Bool). decode f .link 2 x y || z && sameLocation (decode f) x y)
+    (sym (and-assoc (isInitial f x) (isRecorded f y) (ofClass (decode f) 2 y)))))

@@ -3,3 +3,4 @@ pub mod LinkLaws
 pub mod SortLaws
 pub mod GraphLaws
 pub mod ThreadLaws
+pub mod EightRows

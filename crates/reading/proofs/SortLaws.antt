@@ -1,34 +1,27 @@
 -- Laws of the sets of events of a file: ranges of numbers, and events sorted by a byte of their records.
 use mathlib.Core.Path.{_≡_, refl, sym, ap, ap₂, subst, _∙_, fun-ext}
-use mathlib.Core.Bool.{Bool, true, false, not, _&&_, _||_}
+use mathlib.Core.Bool.{Bool, true, false, not, _&&_, _||_, or-false, and-false, and-true, or-assoc, and-comm}
 use mathlib.Core.List.{List, []}
 use Prim.Native.Nat.{ℕ, _+_, _<_, _≤_}
 use native.Mathlib.Omega.{arith}
 use native.Mathlib.Decide.{ℕ-discrete, decLt}
-use borrow.Author.Tests.{eq-eqb, ne-eqb, le-leb, lt-leb, lt-ltb, le-ltb, leb-true}
+use borrow.Author.Tests.{eq-eqb, ne-eqb, le-leb, lt-leb, lt-ltb, le-ltb}
 use lib.Dec.{eqb, leb, ltb}
-use lib.ListN.{length, getD, set, replicate, length-set}
-use lib.Seq.{getD-set-same, getD-set-other}
+use lib.ListN.{getD, set, replicate}
 use Rattle.relation.specs.Rel.{least, Next, Set, empty, single, given, union, intersection, difference}
 use Rattle.relation.specs.Ring.{under}
 use Rattle.relation.specs.Bits.{bit}
 use Rattle.relation.proofs.ByteLaws.{bit-out}
-use Rattle.relation.proofs.Meaning.{and-left}
-use Rattle.relation.proofs.SetLaws.{or-assoc, or-false, and-false, and-true, Least, least-is, upto, upto-none, upto-with, upto-keep, upto-skip, upto-done}
+use Rattle.relation.proofs.Truth.{and-left}
+use Rattle.relation.proofs.SetLaws.{Least, least-is, upto, upto-none, upto-with, upto-keep, upto-skip, upto-done}
 use Rattle.models.specs.Recording.{event, ofClass, ofMode, flagged}
 use Rattle.layout.specs.Layout.{events, locations, eventByte, Sized}
 use Rattle.layout.specs.Decode.{isRecorded, isInitial, fieldOr, decode}
 use Rattle.reading.specs.Sets.{holding, AllRecorded, SortedBy}
-use Rattle.layout.proofs.FieldLaws.{recorded-bounds, field-initial, field-recorded}
-use Rattle.reading.proofs.LinkLaws.{empty-row}
+use Rattle.layout.proofs.FieldLaws.{recorded-bounds, initial-bounds, field-initial, field-recorded}
+use Rattle.reading.proofs.EightRows.{Eight, eight-none, eight-keep, eight-set}
 
 -- Ranges of numbers.
-and-swap : (a b : Bool) → a && b ≡ b && a
-and-swap true true = refl
-and-swap true false = refl
-and-swap false true = refl
-and-swap false false = refl
-
 not-below : (k j : ℕ) → not (ltb j k) ≡ leb k j
 not-below k j = elim (decLt j k) [ yes h ↦ ap not (lt-ltb j k h) ∙ sym (lt-leb k j h) | no h ↦ ap not (le-ltb j k (omega (arith, h))) ∙ sym (le-leb k j (omega (arith, h))) ]
 
@@ -42,13 +35,13 @@ pub recorded-range : (f : List ℕ) (n : ℕ) (s t : Set) → n ≡ events f →
 unfolding difference single under isRecorded
 recorded-range f n s t e p q =
     q ∙ ap (λ (u : Set). difference u (single 0)) p
-    ∙ fun-ext (λ j. ap₂ _&&_ (up-to n j ∙ ap (leb j) e) (not-zero j) ∙ and-swap (leb j (events f)) (leb 1 j))
+    ∙ fun-ext (λ j. ap₂ _&&_ (up-to n j ∙ ap (leb j) e) (not-zero j) ∙ and-comm (leb j (events f)) (leb 1 j))
 
 pub initial-range : (f : List ℕ) (l : ℕ) (s t u : Set) → l ≡ locations f → s ≡ under (56 + l) → t ≡ under 56 → u ≡ difference s t → u ≡ isInitial f
 unfolding difference under isInitial
 initial-range f l s t u e p q w =
     w ∙ ap₂ difference p q
-    ∙ fun-ext (λ j. ap₂ _&&_ (ap (λ (m : ℕ). ltb j (56 + m)) e) (not-below 56 j) ∙ and-swap (ltb j (56 + locations f)) (leb 56 j))
+    ∙ fun-ext (λ j. ap₂ _&&_ (ap (λ (m : ℕ). ltb j (56 + m)) e) (not-below 56 j) ∙ and-comm (ltb j (56 + locations f)) (leb 56 j))
 
 -- The members of a row that are in s, member by member: those below e are found, where e is a member or 64.
 pub record Found (row s t : Set) (e : ℕ) : Type 0 where
@@ -90,42 +83,29 @@ module _ (row s : Set) where
   found-all out t e h w = upto-done e 64 (intersection row s) t h (w .holds) (λ j g. ap (λ (x : Bool). x && s j) (out j g))
 
 -- The events of s by byte k of their records, member by member.
-pub record Sorting (f : List ℕ) (s : Set) (k e : ℕ) (h : List (List ℕ)) : Type 0 where
-  pub long : length h ≡ 8
-  pub each : (v : ℕ) → v < 8 → Found s (holding f k v) (bit (getD h v [])) e
+abbrev pub Sorting : List ℕ → Set → ℕ → ℕ → List (List ℕ) → Type 0
+Sorting f s k e = Eight (λ v t. Found s (holding f k v) t e)
 
-module _ (f : List ℕ) (s : Set) (k : ℕ) where
-  pub sorting-first : (e : ℕ) → e ≡ least 64 s → Sorting f s k e (replicate 8 (replicate 8 0))
-  sorting-first e p = record { long = refl; each = λ v g. found-first s (holding f k v) _ e (empty-row 8 v) p }
+pub sorting-first : (f : List ℕ) (s : Set) (k : ℕ) {e : ℕ} → e ≡ least 64 s → Sorting f s k e (replicate 8 (replicate 8 0))
+sorting-first f s k {e} p = eight-none (λ v. found-first s (holding f k v) empty e refl p)
 
-  pub sorting-recorded : AllRecorded f s → (e : ℕ) (h : List (List ℕ)) → Sorting f s k e h → e < 64 → (1 ≤ e) × (e ≤ events f)
-  sorting-recorded all e h w g = recorded-bounds f e (all e (w .each 0 (omega arith) .member g))
+module _ (f : List ℕ) {s : Set} (k : ℕ) {e : ℕ} {h : List (List ℕ)} (w : Sorting f s k e h) where
+  pub sorting-recorded : AllRecorded f s → e < 64 → (1 ≤ e) × (e ≤ events f)
+  sorting-recorded all g = recorded-bounds f e (all e (w .row 0 (omega arith) .member g))
 
-  module _ (e : ℕ) (h : List (List ℕ)) (w : Sorting f s k e h) (g : e < 64) (n : ℕ) (next : Next s (e + 1) n) (x : ℕ) (at : x ≡ eventByte f e k) where
+  module _ {n x : ℕ} (g : e < 64) (next : Next s (e + 1) n) (at : x ≡ eventByte f e k) where
     pub sorting-with : (r : List ℕ) → x < 8 → bit r ≡ union (bit (getD h x [])) (single e) → Sorting f s k n (set h x r)
     unfolding holding
     sorting-with r i p =
-        record {
-          long = length-set h x r ∙ w .long;
-          each = λ v j. elim (ℕ-discrete x v) [
-            | yes q ↦ subst (λ (y : ℕ). Found s (holding f k y) (bit (getD (set h x r) y [])) n) q
-                (found-with s (holding f k x) _ e (w .each x i) g n next (eq-eqb (eventByte f e k) x (sym at)) _
-                (ap bit (getD-set-same h x r [] (omega (arith, i, w .long))) ∙ p))
-            | no d ↦ subst (λ (y : List ℕ). Found s (holding f k v) (bit y) n) (sym (getD-set-other h x v r [] (λ q. d (sym q))))
-                (found-keep s (holding f k v) _ e (w .each v j) g n next (ne-eqb (eventByte f e k) v (λ q. d (at ∙ q))))
-          ];
-        }
+        eight-set w x r i (found-with s (holding f k x) _ e (w .row x i) g n next (eq-eqb (eventByte f e k) x (sym at)) _ p)
+        (λ v j d t q. found-keep s (holding f k v) t e q g n next (ne-eqb (eventByte f e k) v (λ z. d (at ∙ z))))
 
     pub sorting-keep : 8 ≤ x → Sorting f s k n h
     unfolding holding
-    sorting-keep i =
-        record {
-          long = w .long;
-          each = λ v j. found-keep s (holding f k v) _ e (w .each v j) g n next (ne-eqb (eventByte f e k) v (λ q. omega (arith, at)));
-        }
+    sorting-keep i = eight-keep w (λ v j t q. found-keep s (holding f k v) t e q g n next (ne-eqb (eventByte f e k) v (λ z. omega (arith, at))))
 
-pub sorting-all : (f : List ℕ) (row : List ℕ) (k e : ℕ) (h : List (List ℕ)) → 64 ≤ e → Sorting f (bit row) k e h → SortedBy f (bit row) k h
-sorting-all f row k e h g w = record { long = w .long; row = λ v i. found-all (bit row) (holding f k v) (bit-out row) _ e g (w .each v i) }
+pub sorting-all : {f : List ℕ} (row : List ℕ) {k e : ℕ} {h : List (List ℕ)} → 64 ≤ e → Sorting f (bit row) k e h → SortedBy f (bit row) k h
+sorting-all {f} row {k} {e} g w = record { long = w .long; row = λ v i. found-all (bit row) (holding f k v) (bit-out row) _ e g (w .row v i) }
 
 -- What is sorted has a record, where all that was to sort has one.
 sorted-recorded : (f : List ℕ) (s : Set) (k : ℕ) (rows : List (List ℕ)) → AllRecorded f s → SortedBy f s k rows → (v : ℕ) → v < 8 → AllRecorded f (bit (getD rows v []))
@@ -134,22 +114,18 @@ sorted-recorded f s k rows all w v h e p = all e (and-left (s e) (holding f k v 
 
 -- The events of a class: recorded ones by their records, and every initial write has class 2.
 module _ (f : List ℕ) (s : Sized f) where
-  initial-bound : (e : ℕ) → isInitial f e ≡ true → 56 ≤ e
-  unfolding isInitial
-  initial-bound e p = leb-true 56 e (and-left (leb 56 e) (ltb e (56 + locations f)) p)
-
   recorded-field : (j given e : ℕ) → isRecorded f e ≡ true → fieldOr f j given e ≡ eventByte f e j
   recorded-field j given e p = (let (a, b) = recorded-bounds f e p in sym (field-recorded f j given e _ (omega (arith, s .most-events)) refl p))
 
   disjoint : (e : ℕ) → isInitial f e ≡ true → (b : Bool) → isRecorded f e ≡ b → b ≡ false
-  disjoint e p true q = absurd (let (a, b) = recorded-bounds f e q in omega (arith, s .most-events, initial-bound e p))
+  disjoint e p true q = absurd (let (a, b) = recorded-bounds f e q in omega (arith, s .most-events, initial-bounds f e p .0))
   disjoint e p false q = refl
 
   -- The events whose byte j is x, where an initial write has `given` for it.
   event-field : (j given x : ℕ) (e : ℕ) (a b : Bool) → isInitial f e ≡ a → isRecorded f e ≡ b
       → (a || b) && eqb (fieldOr f j given e) x ≡ (eqb given x && a) || (b && eqb (eventByte f e j) x)
   event-field j g x e true b p q =
-      ap (λ (y : ℕ). eqb y x) (sym (field-initial f j g e (initial-bound e p)))
+      ap (λ (y : ℕ). eqb y x) (sym (field-initial f j g e (initial-bounds f e p .0)))
       ∙ sym (rw (disjoint e p b q) (or-false (eqb g x && true) ∙ and-true (eqb g x)))
   event-field j g x e false true p q =
       ap (λ (y : ℕ). eqb y x) (recorded-field j g e q) ∙ sym (ap (λ (y : Bool). y || eqb (eventByte f e j) x) (and-false (eqb g x)))
@@ -173,7 +149,7 @@ module _ (f : List ℕ) (s : Sized f) where
       → ((a || b) && eqb (fieldOr f 1 2 e) k) && eqb (fieldOr f j 0 e) x ≡ (b && eqb (eventByte f e 1) k) && eqb (eventByte f e j) x
   class-field-at k j x e true b h p q =
       ap (λ (y : Bool). eqb (fieldOr f 1 2 e) k && y)
-      (ap (λ (y : ℕ). eqb y x) (sym (field-initial f j 0 e (initial-bound e p))) ∙ ne-eqb 0 x (λ z. omega arith))
+      (ap (λ (y : ℕ). eqb y x) (sym (field-initial f j 0 e (initial-bounds f e p .0))) ∙ ne-eqb 0 x (λ z. omega arith))
       ∙ and-false (eqb (fieldOr f 1 2 e) k)
       ∙ sym (ap (λ (y : Bool). (y && eqb (eventByte f e 1) k) && eqb (eventByte f e j) x) (disjoint e p b q))
   class-field-at k j x e false true h p q =

@@ -1,30 +1,28 @@
 -- Laws of the line of the threads' events, and of program order made along it from its end.
 use mathlib.Core.Path.{_≡_, refl, sym, ap, ap₂, subst, _∙_, fun-ext}
-use mathlib.Core.Bool.{Bool, true, false, _&&_, _||_, false≢true}
+use mathlib.Core.Bool.{Bool, true, false, _&&_, _||_, false≢true, and-false, or-false}
 use mathlib.Core.List.{List, [], _∷_, _++_, append-assoc, append-nil}
 use mathlib.Core.Logic.{_⊎_, inl, inr}
-use Prim.Native.Nat.{ℕ, zero, suc, _+_, _<_, _≤_}
+use Prim.Native.Nat.{ℕ, zero, suc, _+_, _-_, _<_, _≤_}
 use native.Mathlib.Numerals.{add-one}
 use native.Mathlib.Omega.{arith}
 use native.Mathlib.Decide.{ℕ-discrete}
-use borrow.Author.Tests.{eq-eqb, ne-eqb, eqb-true, lt-leb}
+use borrow.Author.Tests.{eq-eqb, ne-eqb, eqb-true}
 use lib.Dec.{eqb}
 use lib.ListN.{length, getD, set, take, drop, length-set, length-append, drop-of-length-le}
 use lib.Seq.{getD-set-same, getD-set-other, take-suc-set, length-take-le, getD-take, drop-cons}
 use Rattle.relation.specs.Rel.{Set, Rel, empty, single, union, product, either, plus, nodes}
 use Rattle.relation.specs.Bits.{bit, edge}
-use Rattle.relation.proofs.Meaning.{Steps, one, more, and-left, and-right, or-either, or-left, or-right, mem-below, plus-sound, plus-holds, plus-passes, plus-complete}
-use Rattle.relation.proofs.SetLaws.{and-false, or-false}
+use Rattle.relation.proofs.Meaning.{Steps, one, more, mem-below, plus-sound, plus-holds, plus-passes, plus-complete}
 use Rattle.models.specs.Graph.{base}
 use Rattle.layout.specs.Layout.{events, eventByte, threads, Sized}
 use Rattle.layout.specs.Chains.{among, chain, met, fresh, allMet, onceEach, nextOf, nextEvent, head, threadsSound, thread, threadsUpTo}
 use Rattle.layout.specs.Decode.{isRecorded, isInitial, decode}
 use Rattle.reading.specs.Sets.{Line}
-use Rattle.relation.proofs.Truth.{is-false, same-test, by-test}
-use Rattle.layout.proofs.FieldLaws.{recorded-bounds, recorded-is, initial-no}
-use Rattle.layout.proofs.FieldLaws.{next-first}
-use Rattle.layout.proofs.ChainLaws.{each-at, unsound-on}
-use Rattle.layout.proofs.ChainFacts.{Ended, end, step, among-here, among-append, fresh-length, follow-positive, ended-next, ended-at, ended-after, ended-end, chain-ended, met-cases}
+use Rattle.relation.proofs.Truth.{is-false, same-test, by-test, and-left, and-right, or-either, or-left, or-right}
+use Rattle.layout.proofs.FieldLaws.{recorded-bounds, recorded-is, initial-below, next-first}
+use Rattle.layout.proofs.ChainLaws.{each-at, fresh-upto}
+use Rattle.layout.proofs.ChainFacts.{Ended, end, step, among-here, among-append, fresh-length, follow-positive, ended-first, ended-next, ended-at, ended-after, ended-end, chain-ended, met-cases}
 
 -- A list whose numbers are each followed by 0 or by a number behind them in the list.
 data Onward (limit : ℕ) (next : ℕ → ℕ) : List ℕ → Type 0 where
@@ -40,15 +38,11 @@ record Place (limit : ℕ) (next : ℕ → ℕ) (l : List ℕ) (k x : ℕ) : Typ
   behind : (next x ≡ 0) ⊎ (among (next x) (drop (suc k) l) ≡ true)
 
 module _ (limit : ℕ) (next : ℕ → ℕ) where
-  ended-first : {x : ℕ} {k : List ℕ} → Ended limit next x k → (x ≡ 0) ⊎ (among x k ≡ true)
-  ended-first end = inl refl
-  ended-first (step {x = x} {l = l} p q w) = inr (among-here x x l refl)
-
   ended-onward : (l : List ℕ) {x : ℕ} {k : List ℕ} → Ended limit next x k → Onward limit next l → Onward limit next (k ++ l)
   ended-onward l end o = o
   ended-onward l (step {x = x} {l = k} p q w) o =
       let behind : (next x ≡ 0) ⊎ (among (next x) (k ++ l) ≡ true)
-      = elim (ended-first w) [
+      = elim (ended-first limit next w) [
         | inl e ↦ inl e
         | inr m ↦ inr (among-append (next x) k l ∙ or-left (among (next x) k) (among (next x) l) m)
       ] in
@@ -70,15 +64,8 @@ module _ (limit : ℕ) (next : ℕ → ℕ) where
 
   met-length : (start : ℕ → ℕ) (n j : ℕ) → j ≤ n → fresh limit [] (met limit next start n) ≡ true → length (met limit next start j) ≤ limit
   met-length start n j h p =
-      fresh-length limit [] (met limit next start j) front
+      fresh-length limit [] (met limit next start j) (fresh-upto limit next start n j h p)
       (λ x m. let w = met-cases limit next start j x m in follow-positive limit next (suc limit) (start (w .0)) x (w .2))
-    where
-      front : fresh limit [] (met limit next start j) ≡ true
-      front =
-          elim (by-test (fresh limit [] (met limit next start j))) [
-            | inl q ↦ q
-            | inr q ↦ absurd (false≢true (sym (unsound-on limit next start n j h q) ∙ p))
-          ]
 
 -- The chain of a thread, from the number of records and the head as they were read.
 pub length-is : (f : List ℕ) (t n x k : ℕ) → n ≡ events f → x ≡ head f t → k ≡ length (chain n (nextOf f 8 8) x) → k ≡ length (thread f t)
@@ -238,7 +225,7 @@ module _ (f : List ℕ) where
   po-recorded s a p = fun-ext (λ x. ap (λ (c : Bool). (c && isRecorded f x) || plus nodes (decode f .next) a x) late)
     where
       late : isInitial f a ≡ false
-      late = (let (h, g) = recorded-bounds f a p in let i : a < 56 = omega (arith, g, s .most-events) in sym (initial-no f a i) ∙ lt-leb 56 a i)
+      late = (let (h, g) = recorded-bounds f a p in initial-below f a (omega (arith, g, s .most-events)))
 
   po-step : Sized f → (a b : ℕ) → isRecorded f a ≡ true → isRecorded f b ≡ true → nextEvent f a ≡ b
       → union (base nodes (decode f) .po b) (single b) ≡ base nodes (decode f) .po a
@@ -252,7 +239,12 @@ abbrev lined : List ℕ → List ℕ
 lined f = threadsUpTo f threads
 
 -- Program order made along the line from its end: from place k on the rows are done, the others hold what initial writes come before.
-pub record Backward (f : List ℕ) (k : ℕ) (h : List (List ℕ)) : Type 0 where
+pub record Backward (f : List ℕ) (len : ℕ) (at : List ℕ) (k : ℕ) (h : List (List ℕ)) : Type 0 where
+  pub sized : Sized f
+  pub sound : threadsSound f ≡ true
+  pub line : Line f threads len at
+  pub all : length at ≡ 64
+  pub high : k ≤ len
   pub long : length h ≡ 64
   pub done : (m : ℕ) → among m (drop k (lined f)) ≡ true → bit (getD h m []) ≡ base nodes (decode f) .po m
   pub rest : (m : ℕ) → among m (drop k (lined f)) ≡ false → bit (getD h m []) ≡ product (isInitial f) (isRecorded f) m
@@ -265,95 +257,106 @@ pub record Placed (f : List ℕ) (k e b : ℕ) : Type 0 where
   pub here : drop k (lined f) ≡ e ∷ drop (suc k) (lined f)
   pub behind : (b ≡ 0) ⊎ (among b (drop (suc k) (lined f)) ≡ true)
   pub next : nextEvent f e ≡ b
+  pub few : events f ≤ 48
 
-module _ (f : List ℕ) (len : ℕ) (at : List ℕ) (line : Line f threads len at) (l : length at ≡ 64) where
-  line-length : length (lined f) ≡ len
-  line-length = ap length (sym (line .listed)) ∙ length-take-le len at (omega (arith, line .bounded))
+abbrev pub PlacedIn : {f : List ℕ} {len : ℕ} {at : List ℕ} {j : ℕ} {h : List (List ℕ)} → Backward f len at j h → ℕ → Type 0
+PlacedIn {f} {len} {at} {j} w b = Placed f (j - 1) (getD at (j - 1) 0) b
 
-  pub backward-start : (h : List (List ℕ)) (i r : Set) → length h ≡ 64 → i ≡ isInitial f → r ≡ isRecorded f → edge h ≡ product i r → Backward f len h
-  unfolding edge among
-  backward-start h i r g p q e =
-      let past = drop-of-length-le (lined f) {i = len} (omega (arith, line-length)) in
-      record {
-        long = g;
-        done = λ m a. absurd (false≢true (sym (ap (among m) past) ∙ a));
-        rest = λ m a. ap (λ (s : Rel). s m) (e ∙ ap₂ product p q);
-      }
+line-length : {f : List ℕ} {len : ℕ} {at : List ℕ} → Line f threads len at → length at ≡ 64 → length (lined f) ≡ len
+line-length {f} {len} {at} line l = ap length (sym (line .listed)) ∙ length-take-le len at (omega (arith, line .bounded))
 
-  pub placed : threadsSound f ≡ true → (k e b : ℕ) → k < len → e ≡ getD at k 0 → b ≡ eventByte f e 0 → Placed f k e b
+pub backward-start : {f : List ℕ} {len : ℕ} {at : List ℕ} (h : List (List ℕ)) {i r : Set} → Sized f → threadsSound f ≡ true → Line f threads len at → length at ≡ 64
+    → length h ≡ 64 → i ≡ isInitial f → r ≡ isRecorded f → edge h ≡ product i r → Backward f len at len h
+unfolding edge among
+backward-start {f} {len} {at} h s t line l g p q e =
+    let past = drop-of-length-le (lined f) {i = len} (omega (arith, line-length line l)) in
+    record {
+      sized = s;
+      sound = t;
+      line = line;
+      all = l;
+      high = omega arith;
+      long = g;
+      done = λ m a. absurd (false≢true (sym (ap (among m) past) ∙ a));
+      rest = λ m a. ap (λ (s : Rel). s m) (e ∙ ap₂ product p q);
+    }
+
+module _ {f : List ℕ} {len : ℕ} {at : List ℕ} {j : ℕ} {h : List (List ℕ)} (w : Backward f len at j h) (more : 0 < j) where
+  -- The event that the line has before place j.
+  pub placed : {e b : ℕ} → e ≡ getD at (j - 1) 0 → b ≡ eventByte f e 0 → Placed f (j - 1) e b
   unfolding onceEach
-  placed sound k e b h p q =
-      let fresh-line = and-left (fresh (events f) [] (lined f)) (allMet (events f) (lined f)) sound in
-      let same : getD (lined f) k 0 ≡ e = ap (λ (y : List ℕ). getD y k 0) (sym (line .listed)) ∙ getD-take len at k 0 h ∙ sym p in
-      let inside : k < length (lined f) = omega (arith, line-length) in
+  placed {e} {b} p q =
+      let k = j - 1 in
+      let fresh-line = and-left (fresh (events f) [] (lined f)) (allMet (events f) (lined f)) (w .sound) in
+      let same : getD (lined f) k 0 ≡ e = ap (λ (y : List ℕ). getD y k 0) (sym (w .line .listed)) ∙ getD-take len at k 0 (omega (arith, w .high)) ∙ sym p in
+      let inside : k < length (lined f) = omega (arith, line-length (w .line) (w .all), w .high) in
       let onward : Onward (events f) (nextEvent f) (lined f)
       = subst (Onward (events f) (nextEvent f)) (append-nil (lined f)) (met-onward (events f) (nextEvent f) (head f) threads fresh-line threads (omega arith) [] nil) in
-      let w : Place (events f) (nextEvent f) (lined f) k e = subst (Place (events f) (nextEvent f) (lined f) k) same (onward-at (events f) (nextEvent f) (lined f) k inside onward) in
+      let v : Place (events f) (nextEvent f) (lined f) k e = subst (Place (events f) (nextEvent f) (lined f) k) same (onward-at (events f) (nextEvent f) (lined f) k inside onward) in
       let n : nextEvent f e ≡ b = sym (q ∙ next-first f e) in
       record {
-        low = w .low;
-        high = w .high;
-        small = subst (λ (y : ℕ). y ≤ events f) n (w .follows);
+        low = v .low;
+        high = v .high;
+        small = subst (λ (y : ℕ). y ≤ events f) n (v .follows);
         here = drop-cons (lined f) k 0 inside ∙ ap (λ (y : ℕ). y ∷ drop (suc k) (lined f)) same;
-        behind = subst (λ (y : ℕ). (y ≡ 0) ⊎ (among y (drop (suc k) (lined f)) ≡ true)) n (w .behind);
+        behind = subst (λ (y : ℕ). (y ≡ 0) ⊎ (among y (drop (suc k) (lined f)) ≡ true)) n (v .behind);
         next = n;
+        few = w .sized .most-events;
       }
 
-module _ (f : List ℕ) (k j e b : ℕ) (h : List (List ℕ)) (p : Placed f k e b) (w : Backward f j h) (up : j ≡ suc k) where
-  later : (m : ℕ) → among m (drop (suc k) (lined f)) ≡ among m (drop j (lined f))
-  later m = ap (λ (i : ℕ). among m (drop i (lined f))) (sym up)
+  module _ {e b : ℕ} (p : Placed f (j - 1) e b) where
+    later : (m : ℕ) → among m (drop (suc (j - 1)) (lined f)) ≡ among m (drop j (lined f))
+    later m = (let up : suc (j - 1) ≡ j = omega arith in ap (λ (i : ℕ). among m (drop i (lined f))) up)
 
-  -- what stands from place k on but not behind it is e
-  others : (m : ℕ) → (m ≡ e → ⊥) → among m (drop k (lined f)) ≡ among m (drop j (lined f))
-  unfolding among
-  others m d = ap (among m) (p .here) ∙ ap (λ (c : Bool). c || among m (drop (suc k) (lined f))) (ne-eqb m e d) ∙ later m
+    -- what stands from place j - 1 on but not behind it is e
+    others : (m : ℕ) → (m ≡ e → ⊥) → among m (drop (j - 1) (lined f)) ≡ among m (drop j (lined f))
+    unfolding among
+    others m d = ap (among m) (p .here) ∙ ap (λ (c : Bool). c || among m (drop (suc (j - 1)) (lined f))) (ne-eqb m e d) ∙ later m
 
-  itself : among e (drop k (lined f)) ≡ true
-  itself = ap (among e) (p .here) ∙ among-here e e (drop (suc k) (lined f)) refl
+    itself : among e (drop (j - 1) (lined f)) ≡ true
+    itself = ap (among e) (p .here) ∙ among-here e e (drop (suc (j - 1)) (lined f)) refl
 
-  pub backward-keep : b ≡ 0 → Backward f k h
-  backward-keep z =
-      record {
-        long = w .long;
-        done = λ m a. elim (ℕ-discrete m e) [
-          | yes q ↦ rw q (row-of (among e (drop j (lined f))) refl)
-          | no d ↦ w .done m (sym (others m d) ∙ a)
-        ];
-        rest = λ m a. elim (ℕ-discrete m e) [
-          | yes q ↦ absurd (false≢true (sym a ∙ ap (λ (i : ℕ). among i (drop k (lined f))) q ∙ itself))
-          | no d ↦ w .rest m (sym (others m d) ∙ a)
-        ];
-      }
-    where
-      row-of : (c : Bool) → among e (drop j (lined f)) ≡ c → bit (getD h e []) ≡ base nodes (decode f) .po e
-      row-of true a = w .done e a
-      row-of false a = w .rest e a ∙ po-none f e (next-last f e (p .next ∙ z))
+    -- the row of e is done, and no other changes
+    one-more : (g : List (List ℕ)) → length g ≡ 64 → bit (getD g e []) ≡ base nodes (decode f) .po e
+        → ((m : ℕ) → (m ≡ e → ⊥) → bit (getD g m []) ≡ bit (getD h m [])) → Backward f len at (j - 1) g
+    one-more g l row kept =
+        record {
+          sized = w .sized;
+          sound = w .sound;
+          line = w .line;
+          all = w .all;
+          high = omega (arith, w .high);
+          long = l;
+          done = λ m a. elim (ℕ-discrete m e) [ yes q ↦ rw q row | no d ↦ kept m d ∙ w .done m (sym (others m d) ∙ a) ];
+          rest = λ m a. elim (ℕ-discrete m e) [
+            | yes q ↦ absurd (false≢true (sym a ∙ ap (λ (i : ℕ). among i (drop (j - 1) (lined f))) q ∙ itself))
+            | no d ↦ kept m d ∙ w .rest m (sym (others m d) ∙ a)
+          ];
+        }
 
-  pub backward-with : Sized f → (b ≡ 0 → ⊥) → (v : List ℕ) → bit v ≡ union (bit (getD h b [])) (single b) → Backward f k (set h e v)
-  backward-with s d v q =
-      record {
-        long = length-set h e v ∙ w .long;
-        done = λ m a. elim (ℕ-discrete m e) [
-          | yes i ↦ rw i (ap bit (getD-set-same h e v [] (omega (arith, w .long, p .high, s .most-events))) ∙ row-of)
-          | no g ↦ ap bit (getD-set-other h e m v [] g) ∙ w .done m (sym (others m g) ∙ a)
-        ];
-        rest = λ m a. elim (ℕ-discrete m e) [
-          | yes i ↦ absurd (false≢true (sym a ∙ ap (λ (i : ℕ). among i (drop k (lined f))) i ∙ itself))
-          | no g ↦ ap bit (getD-set-other h e m v [] g) ∙ w .rest m (sym (others m g) ∙ a)
-        ];
-      }
-    where
-      among-b : among b (drop j (lined f)) ≡ true
-      among-b = elim (p .behind) [ inl z ↦ absurd (d z) | inr a ↦ sym (later b) ∙ a ]
+    pub backward-keep : b ≡ 0 → Backward f len at (j - 1) h
+    backward-keep z = one-more h (w .long) (row-of (by-test (among e (drop j (lined f))))) (λ m d. refl)
+      where
+        row-of : (among e (drop j (lined f)) ≡ true) ⊎ (among e (drop j (lined f)) ≡ false) → bit (getD h e []) ≡ base nodes (decode f) .po e
+        row-of (inl a) = w .done e a
+        row-of (inr a) = w .rest e a ∙ po-none f e (next-last f e (p .next ∙ z))
 
-      row-of : bit v ≡ base nodes (decode f) .po e
-      row-of =
-          q ∙ ap (λ (t : Set). union t (single b)) (w .done b among-b)
-          ∙ po-step f s e b (recorded-is f e (p .low) (p .high)) (recorded-is f b (omega (arith, d)) (p .small)) (p .next)
+    pub backward-with : (b ≡ 0 → ⊥) → (v : List ℕ) → bit v ≡ union (bit (getD h b [])) (single b) → Backward f len at (j - 1) (set h e v)
+    backward-with d v q =
+        one-more (set h e v) (length-set h e v ∙ w .long)
+        (ap bit (getD-set-same h e v [] (omega (arith, w .long, p .high, p .few))) ∙ row-of) (λ m g. ap bit (getD-set-other h e m v [] g))
+      where
+        among-b : among b (drop j (lined f)) ≡ true
+        among-b = elim (p .behind) [ inl z ↦ absurd (d z) | inr a ↦ sym (later b) ∙ a ]
 
-pub backward-all : (f : List ℕ) → threadsSound f ≡ true → (k : ℕ) (h : List (List ℕ)) → k ≤ 0 → Backward f k h → edge h ≡ base nodes (decode f) .po
+        row-of : bit v ≡ base nodes (decode f) .po e
+        row-of =
+            q ∙ ap (λ (t : Set). union t (single b)) (w .done b among-b)
+            ∙ po-step f (w .sized) e b (recorded-is f e (p .low) (p .high)) (recorded-is f b (omega (arith, d)) (p .small)) (p .next)
+
+pub backward-all : {f : List ℕ} {len : ℕ} {at : List ℕ} {k : ℕ} {h : List (List ℕ)} → k ≤ 0 → Backward f len at k h → edge h ≡ base nodes (decode f) .po
 unfolding edge onceEach
-backward-all f sound k h z w = fun-ext (λ m. row m (by-test (among m (lined f))))
+backward-all {f} {len} {at} {k} {h} z w = fun-ext (λ m. row m (by-test (among m (lined f))))
   where
     whole : (m : ℕ) → among m (drop k (lined f)) ≡ among m (lined f)
     whole m = (let e : k ≡ 0 = omega (arith, z) in ap (λ (i : ℕ). among m (drop i (lined f))) e)
@@ -362,7 +365,7 @@ backward-all f sound k h z w = fun-ext (λ m. row m (by-test (among m (lined f))
     unrecorded m a =
         is-false (isRecorded f m)
         (λ p. let (low, high) = recorded-bounds f m p in
-        false≢true (sym a ∙ each-at (events f) (λ x. among x (lined f)) (and-right (fresh (events f) [] (lined f)) _ sound) m low high))
+        false≢true (sym a ∙ each-at (events f) (λ x. among x (lined f)) (and-right (fresh (events f) [] (lined f)) _ (w .sound)) m low high))
 
     row : (m : ℕ) → (among m (lined f) ≡ true) ⊎ (among m (lined f) ≡ false) → bit (getD h m []) ≡ base nodes (decode f) .po m
     row m (inl a) = w .done m (whole m ∙ a)

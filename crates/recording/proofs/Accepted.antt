@@ -9,8 +9,8 @@ use borrow.Author.Tests.{eqb-true, ltb-false, not-false}
 use lib.Dec.{eqb}
 use lib.ListN.{length}
 use Rattle.relation.specs.Rel.{Set, some, below}
-use Rattle.relation.proofs.Meaning.{and-left, and-right, and-both, or-either, some-complete, mem-below}
-use Rattle.relation.proofs.Truth.{is-false}
+use Rattle.relation.proofs.Meaning.{some-complete, mem-below}
+use Rattle.relation.proofs.Truth.{is-false, and-left, and-right, and-both, or-either}
 use Rattle.models.proofs.FirstLaws.{testOf, positive, first-fails, NonePass, none-first}
 use Rattle.layout.specs.Layout.{kind, sideOf, side, source, chip, events, locations, links, threads, kindKnown, bySide, mostEvents, mostLinks, mostInThread, fullLength, linkByte, Sized}
 use Rattle.layout.specs.Chains.{each, thread, threadsSound, linksSound, linksInto, allOf}

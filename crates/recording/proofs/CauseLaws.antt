@@ -1,23 +1,23 @@
 -- Laws of the causes of refusal.
-use mathlib.Core.Path.{_≡_, refl, sym, ap, ap₂, subst, _∙_}
+use mathlib.Core.Path.{_≡_, refl, sym, ap, ap₂, _∙_}
 use mathlib.Core.Bool.{Bool, true, false, not, _&&_, _||_, Bool·beq, false≢true}
 use mathlib.Core.List.{List, [], _∷_, _++_}
 use Prim.Native.Nat.{ℕ, zero, suc, _+_, _-_, _*_, _<_, _≤_}
 use native.Mathlib.Numerals.{add-one}
 use native.Mathlib.Omega.{arith}
 use native.Mathlib.Decide.{ℕ-discrete, decLt}
-use borrow.Author.Tests.{eq-eqb, ne-eqb, lt-ltb, le-ltb, ltb-false, not-false}
+use borrow.Author.Tests.{eq-eqb, ne-eqb, lt-ltb, le-ltb, ltb-false, le-leb, not-false}
 use lib.Dec.{eqb, leb, ltb}
 use lib.ListN.{length}
 use Rattle.relation.specs.Rel.{Set, single, difference, inverse, some, least, below, nodes}
-use Rattle.relation.proofs.Meaning.{some-least, and-left, and-right, and-both, or-none, some-sound, some-complete, mem-below, below-mem}
+use Rattle.relation.proofs.Meaning.{some-least, some-sound, some-complete, mem-below, below-mem}
 use Rattle.relation.proofs.SetLaws.{least-is, least-lt}
 use Rattle.models.specs.Recording.{Recording, event, ofClass, flagged}
 use Rattle.models.specs.Graph.{base}
 use Rattle.models.specs.Rules.{first}
 use Rattle.models.proofs.FirstLaws.{positive, first-stops, first-goes-on, first-front}
 use Rattle.layout.specs.Layout.{Side, side, events, locations, links, linkByte, mostEvents, mostLinks, mostInThread, fullLength, Sized}
-use Rattle.layout.specs.Chains.{among, chain, met, fresh, pushed, onceEach, nextOf, startOf, thread, nextLink, firstLink, linksInto, linksSound, allOf}
+use Rattle.layout.specs.Chains.{met, fresh, onceEach, nextOf, startOf, thread, nextLink, firstLink, linksInto, linksSound, allOf}
 use Rattle.layout.specs.Decode.{decode}
 use Rattle.reading.specs.Readable.{within, readable, Chained, Readable}
 use Rattle.recording.specs.Causes.{rfLegal, coLegal, rmwLegal, fromRead, dataLegal, addrLegal, ctrlLegal, casdepLegal, linkLegal, linkSound, oneSource, linksSoundAt, pairedAt, tooLong, headerOver, overLimit, badThreads, badChains, badLink, headerCauses, recordCauses, linkCauses, causes, refusal}
@@ -25,9 +25,10 @@ use Rattle.recording.specs.Load.{headerOf, answer, loadOf, numberOf, Loa
 use Rattle.recording.specs.declared.Header.{Header}
 use Rattle.recording.specs.declared.Load.{Load}
 use Rattle.recording.specs.declared.Load.the-variants.{Refused, Loaded}
-use Rattle.relation.proofs.Truth.{is-false, same-test}
+use Rattle.relation.proofs.Truth.{is-false, same-test, and-left, and-right, and-both, or-none}
 use Rattle.layout.proofs.FieldLaws.{event-small, class-event, most-events-48}
-use Rattle.layout.proofs.ChainLaws.{fresh-append, each-at}
+use Rattle.layout.proofs.ChainLaws.{each-at}
+use Rattle.layout.proofs.ChainFacts.{fresh-cons, chain-fresh}
 
 -- One rf source: what is left without the least source is empty.
 pub alone : (r : Recording ℕ) (b : ℕ) (s : Set) → s ≡ inverse (r .link 1) b → 64 ≤ least 64 s → true ≡ oneSource r b
@@ -134,25 +135,12 @@ sound-readable f b m s w p =
     (and-left (linkLegal (decode f) (side f) (linkByte f m 1) (linkByte f m 2) b) (eqb (linkByte f m 3) 0) p))))
 
 -- Sound chains stay within their limit.
-fresh-within : (limit : ℕ) (seen l : List ℕ) → fresh limit seen l ≡ true → allOf l (λ m. leb m limit) ≡ true
-unfolding fresh allOf
-fresh-within limit seen [] p = refl
-fresh-within limit seen (x ∷ l) p =
-    and-both (leb x limit) (allOf l (λ m. leb m limit)) (and-left (leb x limit) (not (among x seen)) (and-left (leb x limit && not (among x seen)) _ p))
-    (fresh-within limit (x ∷ seen) l (and-right (leb x limit && not (among x seen)) _ p))
-
-chain-within : (limit : ℕ) (next start : ℕ → ℕ) (n j : ℕ) → j < n → fresh limit [] (met limit next start n) ≡ true
-    → allOf (chain limit next (start j)) (λ m. leb m limit) ≡ true
-unfolding met
-chain-within limit next start zero j h p = absurd (omega arith)
-chain-within limit next start (suc n) j h p =
-    let q : fresh limit [] (met limit next start n) && fresh limit (pushed (met limit next start n) []) (chain limit next (start n)) ≡ true
-    = sym (fresh-append limit [] (met limit next start n) (chain limit next (start n))) ∙ p in
-    elim (ℕ-discrete j n) [
-      | yes e ↦ subst (λ (k : ℕ). allOf (chain limit next (start k)) (λ m. leb m limit) ≡ true) (sym e)
-          (fresh-within limit _ _ (and-right (fresh limit [] (met limit next start n)) _ q))
-      | no d ↦ chain-within limit next start n j (omega (arith, d)) (and-left (fresh limit [] (met limit next start n)) _ q)
-    ]
+all-within : (limit : ℕ) (seen l : List ℕ) → fresh limit seen l ≡ true → allOf l (λ m. leb m limit) ≡ true
+unfolding allOf
+all-within limit seen [] p = refl
+all-within limit seen (x ∷ l) p =
+    let w = fresh-cons limit seen x l p in
+    and-both (leb x limit) _ (le-leb x limit (w .within)) (all-within limit (x ∷ seen) l (w .rest))
 
 pub chained : (f : List ℕ) → Sized f → badChains f ≡ false → Chained f
 unfolding badChains onceEach within
@@ -160,7 +148,7 @@ chained f s p =
     let q = not-false (linksSound f) p in
     record {
       sized = s;
-      chains = λ b h g. chain-within (links f) (nextLink f) (firstLink f) (events f) (b - 1) (omega arith) (and-left _ _ q);
+      chains = λ b h g. let (seen, w) = chain-fresh (links f) (nextLink f) (firstLink f) (events f) (b - 1) (omega arith) (and-left _ _ q) in all-within (links f) seen _ w;
     }
 
 pub readable-of : (f : List ℕ) → Chained f → badLink f ≡ false → Readable f

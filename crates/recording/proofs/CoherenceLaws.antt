@@ -1,7 +1,7 @@
 -- Where co leads back to its start, links of co alone do: no step of co leads to an initial write.
 use mathlib.Core.Path.{_≡_, sym, ap, _∙_}
 use mathlib.Core.Bool.{true, _&&_, false≢true}
-use mathlib.Core.List.{List}
+use mathlib.Core.List.{List, List·Memᴰ}
 use mathlib.Core.Logic.{_⊎_, inl, inr}
 use Prim.Native.Nat.{ℕ}
 use native.Mathlib.Omega.{arith}
@@ -11,14 +11,14 @@ use lib.Dec.{leb}
 use lib.ListN.{getD}
 use Rattle.relation.specs.Rel.{Rel, inverse, some, diagonal, plus, nodes}
 use Rattle.relation.specs.Bits.{edge}
-use Rattle.relation.proofs.Meaning.{Mem, Steps, one, more, and-left, and-right, or-either, or-left, some-sound, some-complete, mem-below, steps-join, plus-sound, plus-complete}
+use Rattle.relation.proofs.Meaning.{Steps, one, more, some-sound, some-complete, mem-below, steps-join, plus-sound, plus-complete}
 use Rattle.relation.proofs.ByteLaws.{bit-out}
 use Rattle.models.specs.Recording.{Recording, write, sameLocation, coStep}
 use Rattle.models.specs.Graph.{base}
 use Rattle.layout.specs.Layout.{Sized}
 use Rattle.layout.specs.Decode.{isRecorded, isInitial, decode}
 use Rattle.recording.specs.Causes.{coRing}
-use Rattle.relation.proofs.Truth.{same-test}
+use Rattle.relation.proofs.Truth.{same-test, and-left, and-right, or-either, or-left}
 use Rattle.layout.proofs.FieldLaws.{recorded-bounds, initial-no}
 
 -- Steps the other way round, and steps of a wider relation.
@@ -75,7 +75,7 @@ module _ (f : List ℕ) (sized : Sized f) where
     unfolding link inverse
     row-is a b = ap (λ (r : Rel). r b a) rows
 
-    from-small : (a b : ℕ) → coStep (decode f) a b ≡ true → Mem a nodes
+    from-small : (a b : ℕ) → coStep (decode f) a b ≡ true → List·Memᴰ a nodes
     unfolding link decode edge isInitial
     from-small a b p =
         elim (step-cases (decode f) a b p) [
@@ -83,7 +83,7 @@ module _ (f : List ℕ) (sized : Sized f) where
           | inr q ↦ mem-below 64 a (omega (arith, ltb-true a _ (and-right (leb 56 a) _ (q .0)), sized .most-locations))
         ]
 
-    into-small : (b a : ℕ) → edge g b a ≡ true → Mem b nodes
+    into-small : (b a : ℕ) → edge g b a ≡ true → List·Memᴰ b nodes
     into-small b a p = let (l, h) = recorded-bounds f b (link-target a b (sym (row-is a b) ∙ p)) in mem-below 64 b (omega (arith, h, sized .most-events))
 
     row-step : (a b : ℕ) → edge g b a ≡ true → coStep (decode f) a b ≡ true

@@ -1,21 +1,30 @@
 -- Laws of what records may say: by class and by type.
 use mathlib.Core.Path.{_≡_, refl, sym, ap, ap₂, subst, _∙_}
 use mathlib.Core.Bool.{Bool, true, false, _&&_}
-use mathlib.Core.List.{List}
+use mathlib.Core.List.{List, [], _∷_}
 use mathlib.Core.Logic.{inl, inr}
-use Prim.Native.Nat.{ℕ, zero, suc, _+_, _<_}
+use Prim.Native.Nat.{ℕ, zero, suc, _<_, _≤_}
+use lib.ListN.{length, getD, List·getD-eq-default}
 use native.Mathlib.Omega.{arith}
-use borrow.Author.Tests.{ltb-true, leb-true}
-use Rattle.relation.proofs.Meaning.{and-left, and-right, or-either}
+use borrow.Author.Tests.{ltb-true}
+use Rattle.relation.proofs.Truth.{and-right, or-either}
 use Rattle.models.specs.Recording.{Recording, event, ofClass, access}
-use Rattle.layout.specs.Layout.{Side, side, events, locations, eventByte, linkByte, Sized}
+use Rattle.layout.specs.Layout.{Side, events, locations, eventByte, linkByte, Sized}
 use Rattle.layout.specs.Chains.{each}
 use Rattle.layout.specs.Decode.{isRecorded, isInitial, decode}
 use Rattle.reading.specs.Sets.{Located}
-use lib.Dec.{eqb, leb, ltb}
-use Rattle.layout.proofs.FieldLaws.{recorded-bounds, location-initial, class-event, class-is, next-first}
+use lib.Dec.{eqb, ltb}
+use Rattle.layout.proofs.FieldLaws.{recorded-bounds, initial-bounds, location-initial, class-event, class-is, next-first}
 use Rattle.layout.proofs.ChainLaws.{each-at}
-use Rattle.recording.specs.Causes.{readLegal, writeLegal, fenceLegal, legal, eventLegal, linkLegal}
+use Rattle.recording.specs.Causes.{readLegal, writeLegal, fenceLegal, legal, eventLegal, rfLegal, coLegal, rmwLegal, dataLegal, addrLegal, ctrlLegal, casdepLegal, linkLegal}
+
+-- Behind the first of a list of tests stand those of 1, 2 and so on; no other number passes.
+none-other : (tests : List Bool) (k : ℕ) → (1 ≤ k → suc (length tests) ≤ k) → false ≡ getD (false ∷ tests) k false
+none-other tests zero h = refl
+none-other tests (suc k) h = (let g = h (omega arith) in sym (List·getD-eq-default tests false (omega arith)))
+
+pub past : {t : ℕ} (k : ℕ) → (t ≡ k → ⊥) → k ≤ t → suc k ≤ t
+past k d h = omega (arith, d)
 
 -- What is legal, by the class, and no other class.
 module _ (s : Side) (L class mode flag location value : ℕ) (x : Bool) where
@@ -34,21 +43,15 @@ module _ (s : Side) (L class mode flag location value : ℕ) (x : Bool) where
   unfolding legal
   legal-fence = legal-of 3
 
-pub legal-other : (s : Side) (L class mode flag location value : ℕ) → (class ≡ 1 → ⊥) → (class ≡ 2 → ⊥) → (class ≡ 3 → ⊥)
-    → false ≡ legal s L class mode flag location value
+pub legal-other : (s : Side) (L class mode flag location value : ℕ) → (1 ≤ class → 4 ≤ class) → false ≡ legal s L class mode flag location value
 unfolding legal
-legal-other s L zero mode flag location value a b c = refl
-legal-other s L (suc zero) mode flag location value a b c = absurd (a refl)
-legal-other s L (suc (suc zero)) mode flag location value a b c = absurd (b refl)
-legal-other s L (suc (suc (suc zero))) mode flag location value a b c = absurd (c refl)
-legal-other s L (suc (suc (suc (suc n)))) mode flag location value a b c = refl
-
--- An event's numbers, read one by one.
-pub event-legal : (f : List ℕ) (s : Side) (e L class mode flag location value : ℕ) → s ≡ side f → L ≡ locations f → class ≡ decode f .class e
-    → mode ≡ decode f .mode e → flag ≡ decode f .flag e → location ≡ decode f .location e → value ≡ decode f .value e
-    → legal s L class mode flag location value ≡ eventLegal f e
-unfolding eventLegal
-event-legal f s e L class mode flag location value i l a b c d v = rw (i, l, a, b, c, d, v)
+legal-other s L class mode flag location value =
+    none-other
+    ((readLegal mode flag && ltb location L)
+    ∷ (writeLegal s mode flag && ltb location L)
+    ∷ (fenceLegal s mode flag && (eqb location 0 && eqb value 0))
+    ∷ [])
+    class
 
 -- Whether b follows a.
 pub next-no : (f : List ℕ) (a b : ℕ) → isRecorded f a ≡ false → false ≡ decode f .next a b
@@ -64,21 +67,15 @@ unfolding decode
 next-yes f a b n p q e = rw (p, q) (ap (λ (x : ℕ). eqb x b) (e ∙ next-first f a))
 
 -- A link's conditions, by its type, and no other type.
-pub link-of : (r : Recording ℕ) (s : Side) (t a b : ℕ) (x : Bool) (k : ℕ) → t ≡ k → x ≡ linkLegal r s k a b → x ≡ linkLegal r s t a b
-link-of r s t a b x k e p = p ∙ ap (λ (i : ℕ). linkLegal r s i a b) (sym e)
+pub link-of : (r : Recording ℕ) (s : Side) (a b k : ℕ) {t : ℕ} {x : Bool} → t ≡ k → x ≡ linkLegal r s k a b → x ≡ linkLegal r s t a b
+link-of r s a b k e p = p ∙ ap (λ (i : ℕ). linkLegal r s i a b) (sym e)
 
-pub link-other : (r : Recording ℕ) (s : Side) (t a b : ℕ) → (t ≡ 1 → ⊥) → (t ≡ 2 → ⊥) → (t ≡ 3 → ⊥) → (t ≡ 4 → ⊥) → (t ≡ 5 → ⊥) → (t ≡ 6 → ⊥) → (t ≡ 7 → ⊥)
-    → false ≡ linkLegal r s t a b
+pub link-other : (r : Recording ℕ) (s : Side) (t a b : ℕ) → (1 ≤ t → 8 ≤ t) → false ≡ linkLegal r s t a b
 unfolding linkLegal
-link-other r s zero a b h1 h2 h3 h4 h5 h6 h7 = refl
-link-other r s (suc zero) a b h1 h2 h3 h4 h5 h6 h7 = absurd (h1 refl)
-link-other r s (suc (suc zero)) a b h1 h2 h3 h4 h5 h6 h7 = absurd (h2 refl)
-link-other r s (suc (suc (suc zero))) a b h1 h2 h3 h4 h5 h6 h7 = absurd (h3 refl)
-link-other r s (suc (suc (suc (suc zero)))) a b h1 h2 h3 h4 h5 h6 h7 = absurd (h4 refl)
-link-other r s (suc (suc (suc (suc (suc zero))))) a b h1 h2 h3 h4 h5 h6 h7 = absurd (h5 refl)
-link-other r s (suc (suc (suc (suc (suc (suc zero)))))) a b h1 h2 h3 h4 h5 h6 h7 = absurd (h6 refl)
-link-other r s (suc (suc (suc (suc (suc (suc (suc zero))))))) a b h1 h2 h3 h4 h5 h6 h7 = absurd (h7 refl)
-link-other r s (suc (suc (suc (suc (suc (suc (suc (suc n)))))))) a b h1 h2 h3 h4 h5 h6 h7 = refl
+link-other r s t a b =
+    none-other
+    (rfLegal r a b ∷ coLegal r a b ∷ rmwLegal r a b ∷ dataLegal r a b ∷ addrLegal r a b ∷ ctrlLegal r a b ∷ casdepLegal r s a b ∷ [])
+    t
 
 -- Another recorded event.
 pub not-recorded : (f : List ℕ) (b : ℕ) (x : Bool) → isRecorded f b ≡ false → false ≡ decode f .recorded b && x
@@ -112,12 +109,7 @@ module _ (f : List ℕ) (s : Sized f) (legal-events : each (events f) (eventLega
   recorded-legal e p = let (a, b) = recorded-bounds f e p in each-at (events f) (eventLegal f) legal-events e a b
 
   initial-location : (e : ℕ) → isInitial f e ≡ true → decode f .location e < locations f
-  unfolding isInitial
-  initial-location e p =
-      let h = leb-true 56 e (and-left (leb 56 e) (ltb e (56 + locations f)) p) in
-      let g = ltb-true e (56 + locations f) (and-right (leb 56 e) (ltb e (56 + locations f)) p) in
-      let q = location-initial f e h in
-      omega arith
+  initial-location e p = (let (h, g) = initial-bounds f e p in omega (arith, location-initial f e h))
 
   class-location : (k e : ℕ) → ofClass (decode f) k e ≡ true → (isRecorded f e ≡ true → decode f .location e < locations f) → decode f .location e < locations f
   unfolding event decode

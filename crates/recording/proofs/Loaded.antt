@@ -6,28 +6,28 @@ use mathlib.Core.Logic.{_⊎_, inl, inr}
 use Prim.Native.Nat.{ℕ, zero, suc, _<_, _≤_}
 use native.Mathlib.Omega.{arith}
 use native.Mathlib.Decide.{ℕ-discrete}
-use borrow.Author.Tests.{eqb-true, eq-eqb, ne-eqb, leb-true, not-false}
-use lib.Dec.{T, eqb, leb}
+use borrow.Author.Tests.{eqb-true, ne-eqb, not-true, not-false}
+use lib.Dec.{T, eqb}
 use lib.ListN.{length}
 use Rattle.relation.specs.Rel.{Set, Rel, some, inverse, diagonal, plus, nodes}
-use Rattle.relation.proofs.Meaning.{and-left, and-right, and-both, some-sound, some-complete, mem-below}
+use Rattle.relation.proofs.Meaning.{some-sound, some-complete, mem-below}
 use Rattle.models.specs.Steps.{Plus, one, cons}
 use Rattle.models.specs.Recording.{event, ofClass, flagged, access, coStep}
 use Rattle.models.specs.Graph.{graph, base, Within}
 use Rattle.models.specs.Loads.{Loads}
-use Rattle.models.proofs.Tests.{or-cases, below-listed, plus-one, plus-join, plus-steps}
+use Rattle.models.proofs.Tests.{plus-one, plus-join, plus-steps}
 use Rattle.layout.specs.Layout.{Side, side, events}
 use Rattle.layout.specs.Chains.{among, fresh, onceEach, nextEvent, head, linksInto, allOf, thread, threadsUpTo}
 use Rattle.layout.specs.Decode.{isRecorded, isInitial, decode, fieldOr}
 use Rattle.reading.specs.Sets.{Located}
 use Rattle.reading.specs.Readable.{Readable}
 use Rattle.recording.specs.Causes.{legal as legalNumbers, eventLegal, rfLegal, coLegal, rmwLegal, fromRead, dataLegal, addrLegal, ctrlLegal, casdepLegal, linkLegal, oneSource, sameLocations, coRing, pairedAt, unpaired, linkSound, refusal}
-use Rattle.relation.proofs.Truth.{is-true, holds}
-use Rattle.layout.proofs.FieldLaws.{recorded-bounds, field-initial, event-small}
+use Rattle.relation.proofs.Truth.{is-true, holds, and-left, and-right, and-both, or-left, or-right, T-or}
+use Rattle.layout.proofs.FieldLaws.{recorded-bounds, initial-bounds, field-initial, event-small}
 use Rattle.layout.proofs.ChainLaws.{each-at}
 use Rattle.recording.proofs.LegalLaws.{accesses-located}
 use Rattle.recording.proofs.CauseLaws.{source-event, chained, readable-of}
-use Rattle.layout.proofs.ChainFacts.{Ended, end, step, among-cases, ended-after, chain-ended, met-cases, one-chain}
+use Rattle.layout.proofs.ChainFacts.{Ended, end, step, among-there, among-cases, ended-first, ended-after, chain-ended, met-cases, one-chain}
 use Rattle.recording.proofs.Accepted.{cause, passes, sized, legal-events, legal-event, threads-sound, links-legal, legal-link}
 
 -- The chain from x is one list.
@@ -54,17 +54,10 @@ unfolding among
 next-among limit next a b end m e h = absurd (false≢true m)
 next-among limit next a b (step {x = x} {l = l} p q w) m e h =
     elim (among-cases a x l m) [
-      | inl i ↦ or-right (eqb b x) (among b l) (starts w (ap next (sym i) ∙ e) h)
-      | inr i ↦ or-right (eqb b x) (among b l) (next-among limit next a b w i e h)
+      | inr i ↦ among-there b x l (next-among limit next a b w i e h)
+      | inl i ↦ let n : next x ≡ b = ap next (sym i) ∙ e in
+          elim (ended-first limit next w) [ inl z ↦ absurd (omega arith) | inr k ↦ among-there b x l (subst (λ (y : ℕ). among y l ≡ true) n k) ]
     ]
-  where
-    or-right : (c d : Bool) → d ≡ true → c || d ≡ true
-    or-right true d k = refl
-    or-right false d k = k
-
-    starts : {y : ℕ} {k : List ℕ} → Ended limit next y k → y ≡ b → 1 ≤ b → among b k ≡ true
-    starts end i g = absurd (omega arith)
-    starts (step {x = y} {l = j} u v s) i g = ap (λ (c : Bool). c || among b j) (eq-eqb b y (sym i))
 
 -- On one chain two numbers with equally long chains are one.
 same-depth : (limit : ℕ) (next : ℕ → ℕ) (a b : ℕ) {x : ℕ} {l : List ℕ} → Ended limit next x l → among a l ≡ true → among b l ≡ true
@@ -91,6 +84,18 @@ same-depth limit next a b (step {x = x} {l = l} p q w) m n {j} {k} u v e =
         let (r, t, h) = ended-from limit next c w i in
         let d = ended-unique limit next s t in
         omega (arith, h, ap length d, ap length f, g)
+
+-- The first step of several.
+begins : {R : ℕ → ℕ → Type 0} {x y : ℕ} → Plus R x y → (z : ℕ) × R x z
+begins (one {b = z} h) = (z, h)
+begins (cons {b = z} h p) = (z, h)
+
+-- Two tests and two others, all of which hold.
+four : (a b c d : Bool) → (a && b) && (c && d) ≡ true → T a × T b × T c × T d
+four a b c d p =
+    let u = and-left (a && b) (c && d) p in
+    let v = and-right (a && b) (c && d) p in
+    (holds a (and-left a b u), holds b (and-right a b u), holds c (and-left c d v), holds d (and-right c d v))
 
 -- Threads: every record is on a chain that ends.
 module _ (f : List ℕ) (a : refusal f ≡ 0) where
@@ -142,11 +147,10 @@ module _ (f : List ℕ) (a : refusal f ≡ 0) where
       omega (arith, longer x z (is-true _ h) u w, shorter-path z y p w v)
 
   acyclic : (x : ℕ) → Plus (λ u v. T (decode f .next u v)) x x → ⊥
-  acyclic x p = let (k, w) = own-chain x (start p) in omega (arith, shorter-path x x p w w)
-    where
-      start : {y : ℕ} → Plus (λ u v. T (decode f .next u v)) x y → isRecorded f x ≡ true
-      start (one {b = y} h) = next-from x y (is-true _ h)
-      start (cons {b = y} h q) = next-from x y (is-true _ h)
+  acyclic x p =
+      let (z, h) = begins p in
+      let (k, w) = own-chain x (next-from x z (is-true _ h)) in
+      omega (arith, shorter-path x x p w w)
 
   injective : (x y z : ℕ) → decode f .next x z ≡ true → decode f .next y z ≡ true → x ≡ y
   injective x y z p q =
@@ -175,7 +179,7 @@ module _ (f : List ℕ) (a : refusal f ≡ 0) where
   ordered : (x y : ℕ) → base nodes (decode f) .po x y ≡ true → graph (decode f) .po x y
   unfolding base Rattle.relation.specs.Rel.either Rattle.relation.specs.Rel.union
   ordered x y p =
-      elim (or-cases (decode f .initial x && decode f .recorded y) (plus nodes (decode f .next) x y) (holds _ p)) [
+      elim (T-or (decode f .initial x && decode f .recorded y) (plus nodes (decode f .next) x y) (holds _ p)) [
         | inl h ↦ inl (holds _ (and-left (decode f .initial x) (decode f .recorded y) (is-true _ h)), holds _ (and-right (decode f .initial x) (decode f .recorded y) (is-true _ h)))
         | inr h ↦ inr (plus-steps nodes (decode f .next) x y h)
       ]
@@ -188,53 +192,34 @@ module _ (f : List ℕ) (a : refusal f ≡ 0) where
   rf-of : (x y : ℕ) → T (decode f .link 1 x y) → T (ofClass (decode f) 2 x) × T (ofClass (decode f) 1 y) × (decode f .location x ≡ decode f .location y)
   unfolding linkLegal rfLegal
   rf-of x y h =
-      let p = legal 1 x y h in
-      let c = and-left (ofClass (decode f) 2 x && ofClass (decode f) 1 y) _ p in
-      let d = and-right (ofClass (decode f) 2 x && ofClass (decode f) 1 y) _ p in (
-        holds _ (and-left (ofClass (decode f) 2 x) (ofClass (decode f) 1 y) c),
-        holds _ (and-right (ofClass (decode f) 2 x) (ofClass (decode f) 1 y) c),
-        located x y (and-left (sameLocations (decode f) x y) _ d),
-      )
+      let (c, d, l, v) = four (ofClass (decode f) 2 x) (ofClass (decode f) 1 y) (sameLocations (decode f) x y) _ (legal 1 x y h) in
+      (c, d, located x y (is-true _ l))
 
   co-of : (x y : ℕ) → T (decode f .link 2 x y)
       → T (ofClass (decode f) 2 x) × T (ofClass (decode f) 2 y) × T (decode f .recorded y) × (decode f .location x ≡ decode f .location y)
   unfolding linkLegal coLegal
   co-of x y h =
-      let p = legal 2 x y h in
-      let c = and-left (ofClass (decode f) 2 x && ofClass (decode f) 2 y) _ p in
-      let d = and-right (ofClass (decode f) 2 x && ofClass (decode f) 2 y) _ p in (
-        holds _ (and-left (ofClass (decode f) 2 x) (ofClass (decode f) 2 y) c),
-        holds _ (and-right (ofClass (decode f) 2 x) (ofClass (decode f) 2 y) c),
-        holds _ (and-left (decode f .recorded y) _ d),
-        located x y (and-right (not (eqb x y)) _ (and-right (decode f .recorded y) _ d)),
-      )
+      let (c, d, r, l) = four (ofClass (decode f) 2 x) (ofClass (decode f) 2 y) (decode f .recorded y) _ (legal 2 x y h) in
+      (c, d, r, located x y (and-right (not (eqb x y)) _ (is-true _ l)))
 
   rmw-of : (x y : ℕ) → T (decode f .link 3 x y)
       → T (flagged (decode f) 1 x) × T (ofClass (decode f) 2 y) × T (decode f .next x y) × (decode f .location x ≡ decode f .location y)
   unfolding linkLegal rmwLegal
   rmw-of x y h =
-      let p = legal 3 x y h in
-      let c = and-left (flagged (decode f) 1 x && ofClass (decode f) 2 y) _ p in
-      let d = and-right (flagged (decode f) 1 x && ofClass (decode f) 2 y) _ p in (
-        holds _ (and-left (flagged (decode f) 1 x) (ofClass (decode f) 2 y) c),
-        holds _ (and-right (flagged (decode f) 1 x) (ofClass (decode f) 2 y) c),
-        holds _ (and-left (decode f .next x y) _ d),
-        located x y (and-right (decode f .next x y) _ d),
-      )
+      let (c, d, n, l) = four (flagged (decode f) 1 x) (ofClass (decode f) 2 y) (decode f .next x y) _ (legal 3 x y h) in
+      (c, d, n, located x y (is-true _ l))
+
+  -- Types 4 to 7 but 6 lead from a read to an event po-later of which a test holds.
+  read-to : (x y : ℕ) (c : Bool) → fromRead (decode f) x y && c ≡ true → T (ofClass (decode f) 1 x) × T c × graph (decode f) .po x y
+  read-to x y c p = (let (r, o) = from-read x y (and-left (fromRead (decode f) x y) c p) in (r, holds c (and-right (fromRead (decode f) x y) c p), o))
 
   data-of : (x y : ℕ) → T (decode f .link 4 x y) → T (ofClass (decode f) 1 x) × T (ofClass (decode f) 2 y) × graph (decode f) .po x y
   unfolding linkLegal dataLegal
-  data-of x y h =
-      let p = legal 4 x y h in
-      let (r, o) = from-read x y (and-left (fromRead (decode f) x y) _ p) in
-      (r, holds _ (and-right (fromRead (decode f) x y) _ p), o)
+  data-of x y h = read-to x y (ofClass (decode f) 2 y) (legal 4 x y h)
 
   addr-of : (x y : ℕ) → T (decode f .link 5 x y) → T (ofClass (decode f) 1 x) × T (access (decode f) y) × graph (decode f) .po x y
   unfolding linkLegal addrLegal
-  addr-of x y h =
-      let p = legal 5 x y h in
-      let (r, o) = from-read x y (and-left (fromRead (decode f) x y) _ p) in
-      (r, holds _ (and-right (fromRead (decode f) x y) _ p), o)
+  addr-of x y h = read-to x y (access (decode f) y) (legal 5 x y h)
 
   ctrl-of : (x y : ℕ) → T (decode f .link 6 x y) → T (ofClass (decode f) 1 x) × graph (decode f) .po x y
   unfolding linkLegal ctrlLegal
@@ -243,9 +228,8 @@ module _ (f : List ℕ) (a : refusal f ≡ 0) where
   casdep-of : (x y : ℕ) → T (decode f .link 7 x y) → T (ofClass (decode f) 1 x) × T (flagged (decode f) 1 y) × graph (decode f) .po x y
   unfolding linkLegal casdepLegal
   casdep-of x y h =
-      let p = legal 7 x y h in
-      let (r, o) = from-read x y (and-left (fromRead (decode f) x y) _ p) in
-      (r, holds _ (and-right (side f) (flagged (decode f) 1 y) (and-right (fromRead (decode f) x y) _ p)), o)
+      let (r, c, o) = read-to x y (side f && flagged (decode f) 1 y) (legal 7 x y h) in
+      (r, holds _ (and-right (side f) (flagged (decode f) 1 y) (is-true _ c)), o)
 
   link-from : (t x y : ℕ) → T (decode f .link t x y) → event (decode f) x ≡ true
   link-from t x y h = source-event (decode f) (side f) t x y (legal t x y h)
@@ -259,11 +243,7 @@ module _ (f : List ℕ) (a : refusal f ≡ 0) where
 
   recorded-event : (e : ℕ) → isRecorded f e ≡ true → event (decode f) e ≡ true
   unfolding event decode
-  recorded-event e p = second (isInitial f e) (isRecorded f e) p
-    where
-      second : (c d : Bool) → d ≡ true → c || d ≡ true
-      second true d q = refl
-      second false d q = q
+  recorded-event e p = or-right (isInitial f e) (isRecorded f e) p
 
   once : (x y z : ℕ) → T (decode f .link 1 x z) → T (decode f .link 1 y z) → x ≡ y
   unfolding oneSource
@@ -272,57 +252,40 @@ module _ (f : List ℕ) (a : refusal f ≡ 0) where
         | yes e ↦ e
         | no d ↦ let (l, r) = recorded-bounds f z (link-into 1 x z h) in
             let two : Set = λ c. some nodes (λ b. (decode f .link 1 c z && decode f .link 1 b z) && not (eqb c b)) in
-            absurd (false≢true (sym (not-true-of (some nodes two) (and-right (allOf (linksInto f z) (linkSound f z)) (oneSource (decode f) z) (links-legal f a z l r)))
+            absurd (false≢true (sym (not-true (some nodes two) (and-right (allOf (linksInto f z) (linkSound f z)) (oneSource (decode f) z) (links-legal f a z l r)))
             ∙ some-complete nodes two x (mem-below 64 x (small x (link-from 1 x z h)))
             (some-complete nodes (λ b. (decode f .link 1 x z && decode f .link 1 b z) && not (eqb x b)) y (mem-below 64 y (small y (link-from 1 y z g)))
             (and-both (decode f .link 1 x z && decode f .link 1 y z) (not (eqb x y)) (and-both (decode f .link 1 x z) (decode f .link 1 y z) (is-true _ h) (is-true _ g)) (ap not (ne-eqb x y d))))))
       ]
-    where
-      not-true-of : (b : Bool) → not b ≡ true → b ≡ false
-      not-true-of true q = absurd (false≢true q)
-      not-true-of false q = refl
 
   -- co, computed, has no event that reaches itself
   co-source : (x y : ℕ) → T (coStep (decode f) x y) → event (decode f) x ≡ true
   unfolding coStep event decode
   co-source x y h =
-      elim (or-cases (decode f .link 2 x y) _ h) [
+      elim (T-or (decode f .link 2 x y) _ h) [
         | inl g ↦ link-from 2 x y g
-        | inr g ↦ first (isInitial f x) (isRecorded f x)
+        | inr g ↦ or-left (isInitial f x) (isRecorded f x)
             (and-left (isInitial f x) (isRecorded f y) (and-left (isInitial f x && isRecorded f y) _ (and-left ((isInitial f x && isRecorded f y) && ofClass (decode f) 2 y) _ (is-true _ g))))
       ]
-    where
-      first : (c d : Bool) → c ≡ true → c || d ≡ true
-      first true d q = refl
-      first false d q = absurd (false≢true q)
+
+  co-start : {x y : ℕ} → Plus (λ u v. T (coStep (decode f) u v)) x y → x < 64
+  co-start {x} p = (let (z, h) = begins p in small x (co-source x z h))
 
   co-computed : (x y : ℕ) → Plus (λ u v. T (coStep (decode f) u v)) x y → T (plus nodes (coStep (decode f)) x y)
   co-computed x y (one h) = plus-one nodes (coStep (decode f)) x y h
   co-computed x y (cons {b = z} h p) =
-      plus-join nodes (coStep (decode f)) x y (below-listed 64 z (middle p)) (plus-one nodes (coStep (decode f)) x z h) (co-computed z y p)
-    where
-      middle : {u v : ℕ} → Plus (λ i j. T (coStep (decode f) i j)) u v → u < 64
-      middle (one {a = u} {b = v} g) = small u (co-source u v g)
-      middle (cons {a = u} {b = v} g q) = small u (co-source u v g)
+      plus-join nodes (coStep (decode f)) x y (mem-below 64 z (co-start p)) (plus-one nodes (coStep (decode f)) x z h) (co-computed z y p)
 
   co-rings : (x : ℕ) → Plus (λ u v. T (coStep (decode f) u v)) x x → ⊥
   unfolding cause coRing diagonal base
   co-rings x p =
       false≢true
       (sym (passes f a 9)
-      ∙ some-complete nodes (diagonal (plus nodes (coStep (decode f)))) x (mem-below 64 x (starts p)) (is-true _ (co-computed x x p)))
-    where
-      starts : {v : ℕ} → Plus (λ i j. T (coStep (decode f) i j)) x v → x < 64
-      starts (one {b = v} g) = small x (co-source x v g)
-      starts (cons {b = v} g q) = small x (co-source x v g)
-
-  initial-bound : (e : ℕ) → isInitial f e ≡ true → 56 ≤ e
-  unfolding isInitial
-  initial-bound e p = leb-true 56 e (and-left (leb 56 e) _ p)
+      ∙ some-complete nodes (diagonal (plus nodes (coStep (decode f)))) x (mem-below 64 x (co-start p)) (is-true _ (co-computed x x p)))
 
   initial-class : (e : ℕ) → isInitial f e ≡ true → decode f .class e ≡ 2
   unfolding decode
-  initial-class e p = sym (field-initial f 1 2 e (initial-bound e p))
+  initial-class e p = sym (field-initial f 1 2 e (initial-bounds f e p .0))
 
   legal-class : (s : Side) (L class mode flag location value : ℕ) → legalNumbers s L class mode flag location value ≡ true → (class ≡ 1) ⊎ (class ≡ 2) ⊎ (class ≡ 3)
   unfolding legalNumbers
@@ -342,8 +305,8 @@ module _ (f : List ℕ) (a : refusal f ≡ 0) where
       let p = is-true (flagged (decode f) 2 e) h in
       let c = and-left (ofClass (decode f) 2 e) _ p in
       let g : fieldOr f 3 0 e ≡ 1 = eqb-true (fieldOr f 3 0 e) 1 (and-right (ofClass (decode f) 2 e) _ p) in
-      elim (or-cases (isInitial f e) (isRecorded f e) (holds _ (and-left (isInitial f e || isRecorded f e) _ c))) [
-        | inl q ↦ let z = field-initial f 3 0 e (initial-bound e (is-true _ q)) in absurd (omega arith)
+      elim (T-or (isInitial f e) (isRecorded f e) (holds _ (and-left (isInitial f e || isRecorded f e) _ c))) [
+        | inl q ↦ let z = field-initial f 3 0 e (initial-bounds f e (is-true _ q) .0) in absurd (omega arith)
         | inr q ↦ is-true _ q
       ]
 
@@ -368,7 +331,7 @@ module _ (f : List ℕ) (a : refusal f ≡ 0) where
   loads =
       record {
         initial-write = λ e h. initial-class e (is-true _ h);
-        initial-unrecorded = λ e h g. (let (l, r) = recorded-bounds f e (is-true _ g) in omega (arith, initial-bound e (is-true _ h), sized f a .most-events));
+        initial-unrecorded = λ e h g. (let (l, r) = recorded-bounds f e (is-true _ g) in omega (arith, initial-bounds f e (is-true _ h) .0, sized f a .most-events));
         class = λ e h. class-of e (is-true _ h);
         next-source = λ x y h. holds _ (next-from x y (is-true _ h));
         next-target = λ x y h. holds _ (next-to x y (is-true _ h));
@@ -390,7 +353,7 @@ module _ (f : List ℕ) (a : refusal f ≡ 0) where
   pub loaded-within : Within nodes (decode f)
   loaded-within =
       record {
-        listed = λ e h. below-listed 64 e (small e (is-true _ h));
+        listed = λ e h. mem-below 64 e (small e (is-true _ h));
         next-source = λ x y h. holds _ (recorded-event x (next-from x y (is-true _ h)));
         next-target = λ x y h. holds _ (recorded-event y (next-to x y (is-true _ h)));
         link-source = λ t x y h. holds _ (link-from t x y h);

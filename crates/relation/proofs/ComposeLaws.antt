@@ -1,26 +1,25 @@
 -- Laws of composition over the numbers of a row.
 use mathlib.Core.Path.{_≡_, refl, sym, _∙_, fun-ext}
-use mathlib.Core.List.{List}
-use mathlib.Core.Bool.{true, false≢true}
+use mathlib.Core.List.{List, List·Memᴰ}
+use mathlib.Core.Bool.{true, false≢true, or-assoc}
 use mathlib.Core.Logic.{inl, inr}
 use Prim.Native.Nat.{ℕ}
 use native.Mathlib.Omega.{arith}
 use native.Mathlib.Decide.{decLt}
 use borrow.Author.Tests.{eqb-true, eq-eqb}
 use lib.Dec.{eqb}
-use Rattle.relation.specs.Rel.{Set, Rel, union, intersection, either, identity, from, into, compose, nodes}
+use Rattle.relation.specs.Rel.{Rel, union, intersection, either, identity, from, into, compose, nodes}
 use Rattle.relation.specs.Bits.{bit}
-use Rattle.relation.proofs.Truth.{same-test}
+use Rattle.relation.proofs.Truth.{same-test, and-left, and-right, and-both, or-either, or-left, or-right}
 use Rattle.relation.proofs.ByteLaws.{bit-out}
-use Rattle.relation.proofs.SetLaws.{or-assoc}
-use Rattle.relation.proofs.Meaning.{Mem, and-left, and-right, and-both, or-either, or-left, or-right, mem-below, compose-sound, compose-complete}
+use Rattle.relation.proofs.Meaning.{mem-below, compose-sound, compose-complete}
 
 -- Two relations that hold together are equal.
 same : (r s : Rel) → ((x y : ℕ) → r x y ≡ true → s x y ≡ true) → ((x y : ℕ) → s x y ≡ true → r x y ≡ true) → r ≡ s
 same r s f g = fun-ext (λ x. fun-ext (λ y. same-test (r x y) (s x y) (f x y) (g x y)))
 
 -- A row holds numbers below 64.
-bit-mem : (row : List ℕ) (x : ℕ) → bit row x ≡ true → Mem x nodes
+bit-mem : (row : List ℕ) (x : ℕ) → bit row x ≡ true → List·Memᴰ x nodes
 bit-mem row x h =
     elim (decLt x 64) [
       | yes p ↦ mem-below 64 x p
@@ -49,16 +48,6 @@ into-set row r =
     and-both (r x z) (bit row z) (rw e at a) (rw e at q))
     (λ x z p. let b : bit row z ≡ true = and-right (r x z) _ p in
     compose-complete nodes r (identity (bit row)) x z z (bit-mem row z b) (and-left _ _ p) (and-both (bit row z) (eqb z z) b (eq-eqb z z refl)))
-
--- ([s] ; a) ; b is [s] ; (a ; b)
-pub from-compose : (s : Set) (a b : Rel) → compose nodes (from s a) b ≡ from s (compose nodes a b)
-unfolding from
-from-compose s a b =
-    same _ _
-    (λ x z p. let (y, m, u, v) = compose-sound nodes (from s a) b x z p in
-    and-both (s x) _ (and-left _ _ u) (compose-complete nodes a b x y z m (and-right (s x) _ u) v))
-    (λ x z p. let (y, m, u, v) = compose-sound nodes a b x z (and-right (s x) _ p) in
-    compose-complete nodes (from s a) b x y z m (and-both (s x) _ (and-left _ _ p) u) v)
 
 -- (a ; b) ; c is a ; (b ; c)
 pub compose-assoc : (a b c : Rel) → compose nodes (compose nodes a b) c ≡ compose nodes a (compose nodes b c)

@@ -1,12 +1,13 @@
 -- Laws of counting: how many numbers below n are in a set.
 use mathlib.Core.Path.{_≡_, refl, sym, ap, subst, _∙_}
-use mathlib.Core.Bool.{Bool, true, false}
+use mathlib.Core.Bool.{Bool, true, false, and-false, and-true}
 use mathlib.Core.Logic.{_⊎_, inl, inr}
 use Prim.Native.Nat.{ℕ, zero, suc, _+_, _*_, _/_, _<_, _≤_}
 use native.Mathlib.Omega.{arith}
 use native.Mathlib.Nat.{add-suc, add-zero}
 use native.Mathlib.Decide.{ℕ-discrete, decLe, decLt}
-use Rattle.relation.specs.Rel.{Set, count}
+use borrow.Author.Tests.{eq-eqb, ne-eqb}
+use Rattle.relation.specs.Rel.{Set, single, difference, count}
 use Rattle.relation.proofs.Pigeonhole.{Twice, pigeonhole}
 
 pub count-yes : (n : ℕ) (s : Set) → s n ≡ true → count (suc n) s ≡ suc (count n s)
@@ -62,6 +63,28 @@ count-same (suc n) s t f =
     elim (count-cases n t) [
       | inl w ↦ count-yes n s (e ∙ w .0) ∙ ap suc earlier ∙ sym (w .1)
       | inr w ↦ count-no n s (e ∙ w .0) ∙ earlier ∙ sym (w .1)
+    ]
+
+-- A set without one of its members counts one less.
+pub without-other : (s : Set) (k j : ℕ) → (k ≡ j → ⊥) → difference s (single k) j ≡ s j
+unfolding difference single
+without-other s k j d = rw (ne-eqb k j d) (and-true (s j))
+
+pub without-self : (s : Set) (k : ℕ) → difference s (single k) k ≡ false
+unfolding difference single
+without-self s k = rw (eq-eqb k k refl) (and-false (s k))
+
+pub count-without : (n : ℕ) (s : Set) (k : ℕ) → k < n → s k ≡ true → suc (count n (difference s (single k))) ≡ count n s
+count-without zero s k h p = absurd (omega arith)
+count-without (suc n) s k h p =
+    let t : Set = difference s (single k) in
+    elim (ℕ-discrete k n) [
+      | yes e ↦ ap suc (count-no n t (ap t (sym e) ∙ without-self s k) ∙ count-same n t s (λ j g. without-other s k j (omega arith)))
+          ∙ sym (count-yes n s (ap s (sym e) ∙ p))
+      | no d ↦ elim (count-cases n s) [
+        | inl w ↦ omega (arith, count-yes n t (without-other s k n d ∙ w .0), w .1, count-without n s k (omega (arith, d)) p)
+        | inr w ↦ omega (arith, count-no n t (without-other s k n d ∙ w .0), w .1, count-without n s k (omega (arith, d)) p)
+      ]
     ]
 
 -- Where a stretch has no member nothing is added.

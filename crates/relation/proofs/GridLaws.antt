@@ -1,7 +1,7 @@
 -- Laws of grids: grids made row by row, and what each operator is outside a grid.
 use mathlib.Core.Path.{_≡_, refl, sym, ap, ap₂, subst, _∙_, fun-ext}
 use mathlib.Core.List.{List, [], _∷_}
-use mathlib.Core.Bool.{Bool, true, false, not, _&&_, _||_}
+use mathlib.Core.Bool.{Bool, true, false, _&&_, _||_, or-false, or-true, and-false, and-true, or-comm}
 use Prim.Native.Nat.{ℕ, zero, suc, _+_, _*_, _<_, _≤_}
 use native.Mathlib.Numerals.{add-one}
 use native.Mathlib.Omega.{arith}
@@ -11,11 +11,11 @@ use borrow.Author.Tests.{eq-eqb, ne-eqb, lt-ltb, le-ltb}
 use lib.Dec.{eqb, ltb}
 use lib.ListN.{length, getD, set, replicate, length-set, List·getD-eq-default}
 use lib.Seq.{getD-set-same, getD-set-other}
-use Rattle.relation.specs.Rel.{Set, Rel, empty, none, single, given, pair, union, intersection, difference, either, inverse, identity, product, from, some, image, compose, through, plus, diagonal, below, nodes, least, Next}
+use Rattle.relation.specs.Rel.{Set, Rel, empty, none, single, given, pair, union, intersection, either, inverse, from, some, image, compose, through, plus, diagonal, below, nodes, least, Next}
 use Rattle.relation.specs.Bits.{bit, edge}
 use Rattle.relation.proofs.ByteLaws.{bit-none, bit-out, on-zero}
 use Rattle.relation.proofs.Meaning.{some-least}
-use Rattle.relation.proofs.SetLaws.{or-comm, or-false, or-true, and-false, and-true, Least, least-is, skip-to}
+use Rattle.relation.proofs.SetLaws.{Least, least-is, skip-to}
 
 -- A row that is not there holds nothing.
 pub bit-nil : bit [] ≡ empty
@@ -31,10 +31,6 @@ pub record Rows (f e : Rel) (h : List (List ℕ)) (k : ℕ) : Type 0 where
   pub long : length h ≡ 64
   pub done : (m : ℕ) → m < k → bit (getD h m []) ≡ f m
   pub rest : (m : ℕ) → k ≤ m → bit (getD h m []) ≡ e m
-
-pub rows-none : (f : Rel) (h : List (List ℕ)) → length h ≡ 64 → Rows f (edge h) h 0
-unfolding edge
-rows-none f h l = record { long = l; done = λ m p. absurd (omega arith); rest = λ m p. refl }
 
 pub rows-none-of : (f e : Rel) (h : List (List ℕ)) → length h ≡ 64 → edge h ≡ e → Rows f e h 0
 unfolding edge
@@ -75,22 +71,44 @@ rows-all f e h k all-done w out =
       | no p ↦ ap bit (List·getD-eq-default h [] (omega (arith, w .long, p))) ∙ bit-nil ∙ sym (out m (omega (arith, p)))
     ])
 
--- Outside a grid each operator holds nothing.
-pub union-out : (s t : Set) → s ≡ empty → t ≡ empty → union s t ≡ empty
-unfolding union empty
-union-out s t p q = fun-ext (λ j. ap₂ (λ (f g : Set). f j || g j) p q)
+-- A grid made of the rows of another, a, one by one: its row m is f m of row m of a.
+pub record Mapped (f : ℕ → Set → Set) (a h : List (List ℕ)) (k : ℕ) : Type 0 where
+  pub high : k ≤ 64
+  pub rows : Rows (λ m. f m (edge a m)) (edge a) h k
+  pub out : (m : ℕ) → 64 ≤ m → f m (edge a m) ≡ empty
 
-pub intersection-out : (s t : Set) → s ≡ empty → intersection s t ≡ empty
-unfolding intersection empty
-intersection-out s t p = fun-ext (λ j. ap (λ (f : Set). f j && t j) p)
+pub mapped-start : {f : ℕ → Set → Set} {a : List (List ℕ)} → length a ≡ 64 → ((m : ℕ) → 64 ≤ m → f m empty ≡ empty) → Mapped f a a 0
+mapped-start {f} {a} l z =
+    record { high = omega arith; rows = rows-none-of _ _ a l refl; out = λ m h. ap (f m) (edge-out a l m h) ∙ z m h }
 
-pub difference-out : (s t : Set) → s ≡ empty → difference s t ≡ empty
-unfolding difference empty
-difference-out s t p = fun-ext (λ j. ap (λ (f : Set). f j && not (t j)) p)
+module _ {f : ℕ → Set → Set} {a h : List (List ℕ)} {k : ℕ} (w : Mapped f a h k) where
+  pub mapped-more : k < 64 → (v : List ℕ) → bit v ≡ f k (edge a k) → Mapped f a (set h k v) (k + 1)
+  mapped-more p v q = record { high = omega arith; rows = rows-set _ _ h k v (w .rows) p q; out = w .out }
 
-pub from-out : (s : Set) (r : Rel) (m : ℕ) → r m ≡ empty → from s r m ≡ empty
-unfolding from empty
-from-out s r m p = fun-ext (λ j. ap (λ (f : Set). s m && f j) p ∙ and-false (s m))
+  pub mapped-all : 64 ≤ k → edge h ≡ (λ m. f m (edge a m))
+  mapped-all p = rows-all _ _ h k p (w .rows) (w .out)
+
+-- A grid made of the rows of r at the members of a row, one by one.
+pub record Chosen (row : List ℕ) (r : Rel) (h : List (List ℕ)) (k : ℕ) : Type 0 where
+  pub high : k ≤ 64
+  pub rows : Rows (from (bit row) r) none h k
+
+pub chosen-start : {row : List ℕ} {r : Rel} {h : List (List ℕ)} → length h ≡ 64 → edge h ≡ none → Chosen row r h 0
+chosen-start l p = record { high = omega arith; rows = rows-none-of _ _ _ l p }
+
+module _ {row : List ℕ} {r : Rel} {h : List (List ℕ)} {k : ℕ} (w : Chosen row r h k) where
+  pub chosen-with : k < 64 → bit row k ≡ true → (v : List ℕ) → bit v ≡ r k → Chosen row r (set h k v) (k + 1)
+  unfolding from
+  chosen-with p t v q =
+      record { high = omega arith; rows = rows-set _ _ h k v (w .rows) p (q ∙ fun-ext (λ j. ap (λ (b : Bool). b && r k j) (sym t))) }
+
+  pub chosen-skip : k < 64 → bit row k ≡ false → Chosen row r h (k + 1)
+  unfolding from none empty
+  chosen-skip p t = record { high = omega arith; rows = rows-keep _ _ h k (w .rows) (fun-ext (λ j. ap (λ (b : Bool). b && r k j) (sym t))) }
+
+  pub chosen-all : 64 ≤ k → edge h ≡ from (bit row) r
+  unfolding from empty
+  chosen-all p = rows-all _ _ h k p (w .rows) (λ m g. fun-ext (λ j. ap (λ (b : Bool). b && r m j) (bit-out row m g)))
 
 -- Nothing is reached from no event.
 some-none : (es : List ℕ) → some es empty ≡ false
@@ -98,12 +116,9 @@ unfolding some empty
 some-none [] = refl
 some-none (e ∷ es) = some-none es
 
-pub image-out : (es : List ℕ) (s : Set) (r : Rel) → s ≡ empty → image es s r ≡ empty
+pub image-out : (es : List ℕ) (r : Rel) → image es empty r ≡ empty
 unfolding image empty
-image-out es s r p = fun-ext (λ j. ap (λ (f : Set). some es (λ i. f i && r i j)) p ∙ none-at es j)
-  where
-    none-at : (es : List ℕ) (j : ℕ) → some es (λ i. empty i && r i j) ≡ empty j
-    none-at es j = some-none es
+image-out es r = fun-ext (λ j. some-none es)
 
 -- The image grows by the row of one event more.
 image-step : (k : ℕ) (s : Set) (r : Rel) (j : ℕ) → image (below (k + 1)) s r j ≡ image (below k) s r j || (s k && r k j)
@@ -185,23 +200,13 @@ edge-with g i j v l h p =
           ∙ ap (λ (b : Bool). bit (getD g m []) k || (b && eqb j k)) (sym (ne-eqb i m (λ q. d (sym q)))))
     ])
 
--- One round of the closure, row by row.
-pub through-out : (k : ℕ) (r : Rel) (m : ℕ) → r m ≡ empty → through k r m ≡ empty
-unfolding through empty
-through-out k r m p = fun-ext (λ j. ap (λ (s : Set). s j || (s k && r k j)) p)
+-- One round of the closure, row by row: a row gains y, row k, where k is in it.
+pub through-row : (k : ℕ) (y : Set) {x s : Set} (t : Bool) → t ≡ x k → x ≡ s → union x (given t y) ≡ union s (given (s k) y)
+through-row k y t e p = ap₂ (λ (f : Set) (b : Bool). union f (given b y)) p (e ∙ ap (λ (f : Set). f k) p)
 
--- x and y are the rows m and k; z is y where k is in x.
-pub through-row : (k : ℕ) (r : Rel) (m : ℕ) (x y : Set) (t : Bool) → x ≡ r m → y ≡ r k → t ≡ x k → union x (given t y) ≡ through k r m
+pub through-rows : (k : ℕ) (r : Rel) (y : Set) → y ≡ r k → (λ (m : ℕ). union (r m) (given (r m k) y)) ≡ through k r
 unfolding union given through
-through-row k r m x y t p q e = fun-ext (λ j. ap (λ (b : Bool). x j || (b && y j)) e ∙ ap₂ (λ (f g : Set). f j || (f k && g j)) p q)
-
-pub from-yes : (s : Set) (r : Rel) (m : ℕ) → s m ≡ true → r m ≡ from s r m
-unfolding from
-from-yes s r m p = fun-ext (λ j. ap (λ (b : Bool). b && r m j) (sym p))
-
-pub from-no : (s : Set) (r : Rel) (m : ℕ) → s m ≡ false → none m ≡ from s r m
-unfolding from none empty
-from-no s r m p = fun-ext (λ j. ap (λ (b : Bool). b && r m j) (sym p))
+through-rows k r y p = ap (λ (s : Set). λ (m : ℕ). union (r m) (given (r m k) s)) p
 
 -- A row without events.
 pub none-in : (row : List ℕ) (n : ℕ) → n ≡ least 64 (bit row) → 64 ≤ n → bit row ≡ empty
@@ -240,18 +245,22 @@ module _ (g : List (List ℕ)) (long : length g ≡ 64) where
       go a b (no q) w = ap (λ (x : Bool). x && ltb (64 * b + a) p) (wide b a (omega (arith, q))) ∙ sym (wide b a (omega (arith, q)))
       go a b (yes q) (no q′) = ap (λ (x : Bool). x && ltb (64 * b + a) p) (tall b a (omega (arith, q′))) ∙ sym (tall b a (omega (arith, q′)))
 
-  -- No pair stands at a place from p on and below q.
-  pub turned-skip : (p q : ℕ) → p ≤ q → ((b a : ℕ) → a < 64 → p ≤ 64 * b + a → 64 * b + a < q → edge g b a ≡ false)
-      → turnedBelow (edge g) p ≡ turnedBelow (edge g) q
+  -- Row i holds nothing from j on and below n.
+  pub turned-skip : (i j n : ℕ) → j ≤ n → n ≤ 64 → ((a : ℕ) → j ≤ a → a < n → edge g i a ≡ false)
+      → turnedBelow (edge g) (64 * i + j) ≡ turnedBelow (edge g) (64 * i + n)
   unfolding turnedBelow
-  turned-skip p q h f = fun-ext (λ a. fun-ext (λ b. go a b (decLt a 64) (decLt (64 * b + a) p) (decLt (64 * b + a) q)))
+  turned-skip i j n h top f = fun-ext (λ a. fun-ext (λ b. go a b (decLt a 64) (decLt (64 * b + a) (64 * i + j)) (decLt (64 * b + a) (64 * i + n))))
     where
-      go : (a b : ℕ) → Dec (a < 64) → Dec (64 * b + a < p) → Dec (64 * b + a < q)
-          → edge g b a && ltb (64 * b + a) p ≡ edge g b a && ltb (64 * b + a) q
-      go a b (no n) v w = ap₂ _&&_ (wide b a (omega (arith, n))) refl ∙ sym (ap₂ _&&_ (wide b a (omega (arith, n))) refl)
-      go a b (yes n) (yes v) w = ap (λ (x : Bool). edge g b a && x) (lt-ltb _ p v ∙ sym (lt-ltb _ q (omega arith)))
-      go a b (yes n) (no v) (yes w) = ap₂ _&&_ (f b a n (omega (arith, v)) w) refl ∙ sym (ap₂ _&&_ (f b a n (omega (arith, v)) w) refl)
-      go a b (yes n) (no v) (no w) = ap (λ (x : Bool). edge g b a && x) (le-ltb _ p (omega (arith, v)) ∙ sym (le-ltb _ q (omega (arith, w))))
+      -- a place of row i from j on and below n
+      off : (a b : ℕ) → a < 64 → (64 * b + a < 64 * i + j → ⊥) → 64 * b + a < 64 * i + n → edge g b a ≡ false
+      off a b m v w = (let e : b ≡ i = omega (arith, v) in rw e (f a (omega (arith, v)) (omega (arith, v))))
+
+      go : (a b : ℕ) → Dec (a < 64) → Dec (64 * b + a < 64 * i + j) → Dec (64 * b + a < 64 * i + n)
+          → edge g b a && ltb (64 * b + a) (64 * i + j) ≡ edge g b a && ltb (64 * b + a) (64 * i + n)
+      go a b (no m) v w = ap₂ _&&_ (wide b a (omega (arith, m))) refl ∙ sym (ap₂ _&&_ (wide b a (omega (arith, m))) refl)
+      go a b (yes m) (yes v) w = ap (λ (x : Bool). edge g b a && x) (lt-ltb _ (64 * i + j) v ∙ sym (lt-ltb _ (64 * i + n) (omega arith)))
+      go a b (yes m) (no v) (yes w) = ap₂ _&&_ (off a b m v w) refl ∙ sym (ap₂ _&&_ (off a b m v w) refl)
+      go a b (yes m) (no v) (no w) = ap (λ (x : Bool). edge g b a && x) (le-ltb _ (64 * i + j) (omega (arith, v)) ∙ sym (le-ltb _ (64 * i + n) (omega (arith, w))))
 
   -- The pair (i, j) stands at the place 64 i + j.
   pub turned-with : (i j : ℕ) → j < 64 → edge g i j ≡ true → either (turnedBelow (edge g) (64 * i + j)) (pair j i) ≡ turnedBelow (edge g) (64 * i + j + 1)
@@ -293,65 +302,36 @@ pub record Turning (g : List (List ℕ)) (i : ℕ) (x : List ℕ) (h : List (Lis
   pub long : length h ≡ 64
   pub given : length g ≡ 64
 
-module _ (g : List (List ℕ)) (i : ℕ) (x : List ℕ) (h : List (List ℕ)) (j : ℕ) where
+module _ {g : List (List ℕ)} {i : ℕ} {x : List ℕ} {h : List (List ℕ)} {j : ℕ} where
   pub turning-first : length g ≡ 64 → length h ≡ 64 → edge h ≡ turnedBelow (edge g) (64 * i) → bit x ≡ edge g i → j ≡ least 64 (bit x) → Turning g i x h j
   turning-first lg lh p row e =
       let l : Least 64 (bit x) j = subst (Least 64 (bit x)) (sym e) (least-is 64 (bit x)) in
-      let in-row : (m : ℕ) → m < j → edge g i m ≡ false = λ m k. ap (λ (s : Set). s m) (sym row) ∙ l .smaller m k in
       record {
         high = l .bound;
-        holds = p ∙ turned-skip g lg (64 * i) (64 * i + j) (omega arith) (λ b a k u v. ap (λ (n : ℕ). edge g n a) (same b a k u v (l .bound)) ∙ in-row a (near b a k u v (l .bound)));
+        holds = p ∙ ap (turnedBelow (edge g)) {x = 64 * i} {y = 64 * i + 0} (omega arith)
+            ∙ turned-skip g lg i 0 j (omega arith) (l .bound) (λ a t u. ap (λ (s : Set). s a) (sym row) ∙ l .smaller a u);
         member = λ k. ap (λ (s : Set). s j) (sym row) ∙ l .member k;
         row = row;
         long = lh;
         given = lg;
       }
-    where
-      same : (b a : ℕ) → a < 64 → 64 * i ≤ 64 * b + a → 64 * b + a < 64 * i + j → j ≤ 64 → b ≡ i
-      same b a k u v w = omega arith
-
-      near : (b a : ℕ) → a < 64 → 64 * i ≤ 64 * b + a → 64 * b + a < 64 * i + j → j ≤ 64 → a < j
-      near b a k u v w = omega arith
 
   module _ (w : Turning g i x h j) where
-    pub turning-next : j < 64 → i < 64 → (v : List ℕ) (n : ℕ) → bit v ≡ union (bit (getD h j [])) (single i) → Next (bit x) (j + 1) n → Turning g i x (set h j v) n
-    turning-next k l v n p next =
+    pub turning-next : j < 64 → (v : List ℕ) {n : ℕ} → bit v ≡ union (bit (getD h j [])) (single i) → Next (bit x) (j + 1) n → Turning g i x (set h j v) n
+    turning-next k v {n} p next =
         record {
           high = next .high;
           holds = edge-with h j i v (w .long) k p ∙ ap (λ (r : Rel). either r (pair j i)) (w .holds) ∙ turned-with g (w .given) i j k (w .member k)
-              ∙ turned-skip g (w .given) (64 * i + j + 1) (64 * i + n) (omega (arith, next .low))
-              (λ b a t u z. ap (λ (m : ℕ). edge g m a) (same b a n t u z (next .high)) ∙ ap (λ (s : Set). s a) (sym (w .row)) ∙ next .before a (above b a n t u z (next .high)) (near b a n t u z (next .high)));
+              ∙ ap (turnedBelow (edge g)) {x = 64 * i + j + 1} {y = 64 * i + (j + 1)} (omega arith)
+              ∙ turned-skip g (w .given) i (j + 1) n (next .low) (next .high) (λ a t u. ap (λ (s : Set). s a) (sym (w .row)) ∙ next .before a t u);
           member = λ z. ap (λ (s : Set). s n) (sym (w .row)) ∙ next .member z;
           row = w .row;
           long = length-set h j v ∙ w .long;
           given = w .given;
         }
-      where
-        same : (b a n : ℕ) → a < 64 → 64 * i + j + 1 ≤ 64 * b + a → 64 * b + a < 64 * i + n → n ≤ 64 → b ≡ i
-        same b a n t u z m = omega arith
-
-        above : (b a n : ℕ) → a < 64 → 64 * i + j + 1 ≤ 64 * b + a → 64 * b + a < 64 * i + n → n ≤ 64 → j + 1 ≤ a
-        above b a n t u z m = omega arith
-
-        near : (b a n : ℕ) → a < 64 → 64 * i + j + 1 ≤ 64 * b + a → 64 * b + a < 64 * i + n → n ≤ 64 → a < n
-        near b a n t u z m = omega arith
 
     pub turning-all : 64 ≤ j → edge h ≡ turnedBelow (edge g) (64 * (i + 1))
     turning-all k = w .holds ∙ ap (turnedBelow (edge g)) {x = 64 * i + j} {y = 64 * (i + 1)} (omega (arith, w .high))
-
--- The identity, row by row.
-pub identity-out : (s : Set) (m : ℕ) → s m ≡ false → identity s m ≡ empty
-unfolding identity empty
-identity-out s m p = fun-ext (λ j. ap (λ (b : Bool). b && eqb m j) p)
-
-pub identity-yes : (s t u : Set) (m : ℕ) → s m ≡ true → t ≡ empty → u ≡ union t (single m) → u ≡ identity s m
-unfolding identity union single empty
-identity-yes s t u m p q e =
-    e ∙ fun-ext (λ j. ap (λ (f : Set). f j || eqb m j) q ∙ ap (λ (b : Bool). b && eqb m j) (sym p))
-
-pub identity-no : (s : Set) (m : ℕ) → s m ≡ false → none m ≡ identity s m
-unfolding none
-identity-no s m p = sym (identity-out s m p)
 
 -- The closure, round by round.
 pub plus-none : (r : Rel) → r ≡ plus (below 0) r
@@ -362,19 +342,6 @@ pub plus-step : (k : ℕ) (r t : Rel) → t ≡ plus (below k) r → through k t
 unfolding plus below
 plus-step k r t p = rw (add-one k) (ap (through k) p)
 
--- The product of two sets, row by row.
-pub product-yes : (s t : Set) (m : ℕ) → s m ≡ true → t ≡ product s t m
-unfolding product
-product-yes s t m p = fun-ext (λ j. ap (λ (b : Bool). b && t j) (sym p))
-
-pub product-no : (s t : Set) (m : ℕ) → s m ≡ false → none m ≡ product s t m
-unfolding product none empty
-product-no s t m p = fun-ext (λ j. ap (λ (b : Bool). b && t j) (sym p))
-
-pub product-out : (s t : Set) (m : ℕ) → s m ≡ false → product s t m ≡ empty
-unfolding none
-product-out s t m p = sym (product-no s t m p)
-
 -- The diagonal of a ; b⁻¹: the events whose rows of a and b share a member.
 pub returning-at : (a b : List (List ℕ)) (i k : ℕ) (m : Set) → m ≡ intersection (bit (getD a i [])) (bit (getD b i [])) → k ≡ least 64 m
     → ltb k 64 ≡ diagonal (compose nodes (edge a) (inverse (edge b))) i
@@ -383,7 +350,7 @@ returning-at a b i k m p q = ap (λ (x : ℕ). ltb x 64) q ∙ some-least m ∙ 
 
 pub returning-out : (a b : List (List ℕ)) → length a ≡ 64 → (i : ℕ) → 64 ≤ i → diagonal (compose nodes (edge a) (inverse (edge b))) i ≡ false
 unfolding diagonal compose empty
-returning-out a b l i h = ap (λ (s : Set). s i) (image-out nodes (edge a i) (inverse (edge b)) (edge-out a l i h))
+returning-out a b l i h = ap (λ (s : Set). s i) (ap (λ (t : Set). image nodes t (inverse (edge b))) (edge-out a l i h) ∙ image-out nodes _)
 
 -- A relation that is given the other way round.
 pub inverse-back : (b e : Rel) → b ≡ inverse e → inverse b ≡ e

@@ -4,6 +4,7 @@ use mathlib.Core.List.{List, [], _∷_, zipWith}
 use mathlib.Core.Bool.{_||_}
 use Prim.Native.Nat.{ℕ, zero, suc, _+_, _*_, _/_, _%_, _^_, _<_}
 use native.Mathlib.Omega.{arith}
+use native.Mathlib.Decide.{decLt}
 use lib.Dec.{T, eqb}
 use lib.Arith.{lt-one}
 use lib.Pow.{shr-lt}
@@ -14,7 +15,7 @@ use mir.Syntax.{w8}
 use mir.Val.{Fits}
 use Rattle.relation.specs.Rel.{Set, union}
 use Rattle.relation.specs.Bits.{on, bit, byteOr}
-use Rattle.relation.proofs.ByteLaws.{digit-pairs, Bytes, bytes-all, bit-in, on-or}
+use Rattle.relation.proofs.ByteLaws.{digit-pairs, bit-in, bit-out, on-or}
 use Rattle.relation.proofs.WordLaws.{on-union, on-half, on-lowest}
 
 -- A row of eight bytes.
@@ -68,6 +69,16 @@ bit-equal a b ra rb same = ext-getD 0 a b (ra .long ∙ sym (rb .long)) (λ i h.
         on-equal 8 (getD a i 0) (getD b i 0) (ra .small i .fits) (rb .small i .fits)
         (λ j g. bit-of a i j h g ∙ ap (λ (s : Set). s (8 * i + j)) same ∙ sym (bit-of b i j h g))
 
+-- A row whose bytes are those of two rows or-ed holds what either holds.
+pub bytes-union : (a b r : List ℕ) → ((k : ℕ) → k < 8 → getD r k 0 ≡ bitOr (getD a k 0) (getD b k 0)) → bit r ≡ union (bit a) (bit b)
+unfolding union
+bytes-union a b r each =
+    fun-ext
+    (λ j. elim (decLt j 64) [
+      | yes h ↦ bit-in r j h ∙ ap (λ (x : ℕ). on x (j % 8)) (each (j / 8) (omega arith)) ∙ on-or _ _ (j % 8) ∙ sym (ap₂ _||_ (bit-in a j h) (bit-in b j h))
+      | no h ↦ bit-out r j (omega (arith, h)) ∙ sym (ap₂ _||_ (bit-out a j (omega (arith, h))) (bit-out b j (omega (arith, h))))
+    ])
+
 -- The byte by byte or of two rows is a row, and holds what either holds.
 module _ (a b : List ℕ) (ra : Row a) (rb : Row b) where
   byteOr-at : (k : ℕ) → getD (byteOr a b) k 0 ≡ bitOr (getD a k 0) (getD b k 0)
@@ -86,8 +97,7 @@ module _ (a b : List ℕ) (ra : Row a) (rb : Row b) where
       }
 
   pub bit-byteOr : bit (byteOr a b) ≡ union (bit a) (bit b)
-  unfolding union
-  bit-byteOr = fun-ext (bytes-all bitOr _||_ on-or refl a b (byteOr a b) 8 (omega arith) (record { long = byteOr-long; done = λ k h. byteOr-at k }))
+  bit-byteOr = bytes-union a b (byteOr a b) (λ k h. byteOr-at k)
 
   -- A row with the bits of both rows' words or-ed is the byte by byte or.
   pub joined-bytes : (r : List ℕ) (v w : ℕ) → Row r → bit a ≡ on v → bit b ≡ on w → bit r ≡ on (bitOr v w) → r ≡ byteOr a b

@@ -1,83 +1,51 @@
 -- What the computed operators mean: `some` is "there is an event", `compose` is "there is an event between",
 -- `plus` is one or more steps.
-use mathlib.Core.Path.{_≡_, refl, sym, subst, _∙_}
-use mathlib.Core.List.{List, [], _∷_}
+use mathlib.Core.Path.{_≡_, refl, sym, ap, subst, _∙_}
+use mathlib.Core.List.{List, [], _∷_, List·Memᴰ, List·Memᴰ·head, List·Memᴰ·tail}
 use mathlib.Core.Bool.{Bool, true, false, _&&_, _||_, false≢true}
-use mathlib.Core.Logic.{_⊎_, inl, inr}
+use mathlib.Core.Logic.{inl, inr}
 use Prim.Native.Nat.{ℕ, zero, suc, _<_}
 use native.Mathlib.Omega.{arith}
 use native.Mathlib.Decide.{ℕ-discrete, decLt}
 use borrow.Author.Tests.{lt-ltb, le-ltb}
 use lib.Dec.{ltb}
 use Rattle.relation.specs.Rel.{Set, Rel, some, image, compose, through, plus, least, below, nodes}
+use Rattle.relation.proofs.Truth.{and-left, and-right, and-both, or-either, or-left, or-right}
 use Rattle.relation.proofs.SetLaws.{least-is, least-lt}
-
--- An event of a list.
-pub data Mem (x : ℕ) : List ℕ → Type 0 where
-  here : {es : List ℕ} → Mem x (x ∷ es)
-  there : {e : ℕ} {es : List ℕ} → Mem x es → Mem x (e ∷ es)
 
 -- One or more steps of r.
 pub data Steps (r : Rel) (x : ℕ) : ℕ → Type 0 where
   one : {y : ℕ} → r x y ≡ true → Steps r x y
   more : {y z : ℕ} → Steps r x y → r y z ≡ true → Steps r x z
 
-pub and-left : (a b : Bool) → a && b ≡ true → a ≡ true
-and-left true b e = refl
-and-left false b e = absurd (false≢true e)
-
-pub and-right : (a b : Bool) → a && b ≡ true → b ≡ true
-and-right true b e = e
-and-right false b e = absurd (false≢true e)
-
-pub and-both : (a b : Bool) → a ≡ true → b ≡ true → a && b ≡ true
-and-both true b p q = q
-and-both false b p q = p
-
-pub or-either : (a b : Bool) → a || b ≡ true → (a ≡ true) ⊎ (b ≡ true)
-or-either true b e = inl refl
-or-either false b e = inr e
-
-pub or-left : (a b : Bool) → a ≡ true → a || b ≡ true
-or-left true b e = refl
-or-left false b e = absurd (false≢true e)
-
-pub or-right : (a b : Bool) → b ≡ true → a || b ≡ true
-or-right true b e = refl
-or-right false b e = e
-
-pub or-none : (a b : Bool) → a || b ≡ false → (a ≡ false) × (b ≡ false)
-or-none true b p = absurd (false≢true (sym p))
-or-none false b p = (refl, p)
-
 -- `some`: there is an event of the list in the set.
-pub some-sound : (es : List ℕ) (s : Set) → some es s ≡ true → (x : ℕ) × Mem x es × (s x ≡ true)
+pub some-sound : (es : List ℕ) (s : Set) → some es s ≡ true → (x : ℕ) × List·Memᴰ x es × (s x ≡ true)
 unfolding some
 some-sound [] s p = absurd (false≢true p)
 some-sound (e ∷ es) s p =
     elim (or-either (s e) (some es s) p) [
-      | inl q ↦ (e, here, q)
-      | inr q ↦ let (x, m, h) = some-sound es s q in (x, there m, h)
+      | inl q ↦ (e, List·Memᴰ·head refl, q)
+      | inr q ↦ let (x, m, h) = some-sound es s q in (x, List·Memᴰ·tail m, h)
     ]
 
-pub some-complete : (es : List ℕ) (s : Set) (x : ℕ) → Mem x es → s x ≡ true → some es s ≡ true
+pub some-complete : (es : List ℕ) (s : Set) (x : ℕ) → List·Memᴰ x es → s x ≡ true → some es s ≡ true
 unfolding some
-some-complete _ s x here p = or-left (s x) _ p
-some-complete _ s x (there {e = e} {es = es} m) p = or-right (s e) (some es s) (some-complete es s x m p)
+some-complete (e ∷ es) s x (List·Memᴰ·head q) p = or-left (s e) (some es s) (ap s (sym q) ∙ p)
+some-complete (e ∷ es) s x (List·Memᴰ·tail m) p = or-right (s e) (some es s) (some-complete es s x m p)
 
-pub mem-below : (n x : ℕ) → x < n → Mem x (below n)
+pub mem-below : (n x : ℕ) → x < n → List·Memᴰ x (below n)
 unfolding below
 mem-below zero x h = absurd (omega arith)
 mem-below (suc n) x h =
     elim (ℕ-discrete x n) [
-      | yes e ↦ subst (λ (k : ℕ). Mem x (k ∷ below n)) e here
-      | no d ↦ there (mem-below n x (omega (arith, d)))
+      | yes e ↦ List·Memᴰ·head e
+      | no d ↦ List·Memᴰ·tail (mem-below n x (omega (arith, d)))
     ]
 
-pub below-mem : (n x : ℕ) → Mem x (below n) → x < n
+pub below-mem : (n x : ℕ) → List·Memᴰ x (below n) → x < n
 unfolding below
-below-mem (suc n) x here = omega arith
-below-mem (suc n) x (there m) = let h = below-mem n x m in omega arith
+below-mem (suc n) x (List·Memᴰ·head e) = omega (arith, e)
+below-mem (suc n) x (List·Memᴰ·tail m) = let h = below-mem n x m in omega arith
 
 -- A number below 64 is in the set exactly when the least member is below 64.
 pub some-least : (s : Set) → ltb (least 64 s) 64 ≡ some nodes s
@@ -94,22 +62,22 @@ some-least s = go (some nodes s) refl
         ]
 
 -- `image` and `compose`: there is an event between.
-pub image-sound : (es : List ℕ) (s : Set) (r : Rel) (y : ℕ) → image es s r y ≡ true → (x : ℕ) × Mem x es × (s x ≡ true) × (r x y ≡ true)
+pub image-sound : (es : List ℕ) (s : Set) (r : Rel) (y : ℕ) → image es s r y ≡ true → (x : ℕ) × List·Memᴰ x es × (s x ≡ true) × (r x y ≡ true)
 unfolding image
 image-sound es s r y p =
     let (x, m, q) = some-sound es (λ i. s i && r i y) p in
     (x, m, and-left (s x) (r x y) q, and-right (s x) (r x y) q)
 
-pub image-complete : (es : List ℕ) (s : Set) (r : Rel) (x y : ℕ) → Mem x es → s x ≡ true → r x y ≡ true → image es s r y ≡ true
+pub image-complete : (es : List ℕ) (s : Set) (r : Rel) (x y : ℕ) → List·Memᴰ x es → s x ≡ true → r x y ≡ true → image es s r y ≡ true
 unfolding image
 image-complete es s r x y m p q = some-complete es (λ i. s i && r i y) x m (and-both (s x) (r x y) p q)
 
 pub compose-sound : (es : List ℕ) (r s : Rel) (x z : ℕ) → compose es r s x z ≡ true
-    → (y : ℕ) × Mem y es × (r x y ≡ true) × (s y z ≡ true)
+    → (y : ℕ) × List·Memᴰ y es × (r x y ≡ true) × (s y z ≡ true)
 unfolding compose
 compose-sound es r s x z p = image-sound es (r x) s z p
 
-pub compose-complete : (es : List ℕ) (r s : Rel) (x y z : ℕ) → Mem y es → r x y ≡ true → s y z ≡ true → compose es r s x z ≡ true
+pub compose-complete : (es : List ℕ) (r s : Rel) (x y z : ℕ) → List·Memᴰ y es → r x y ≡ true → s y z ≡ true → compose es r s x z ≡ true
 unfolding compose
 compose-complete es r s x y z m p q = image-complete es (r x) s y z m p q
 
@@ -152,23 +120,16 @@ passes-on s k m by-m x y p q =
     by-k a b = or-right (s x y) _ (and-both (s x k) (s k y) a b)
 
 -- After its round a path may pass an event.
-pub plus-passes : (es : List ℕ) (r : Rel) (m : ℕ) → Mem m es → (x y : ℕ) → plus es r x m ≡ true → plus es r m y ≡ true
+pub plus-passes : (es : List ℕ) (r : Rel) (m : ℕ) → List·Memᴰ m es → (x y : ℕ) → plus es r x m ≡ true → plus es r m y ≡ true
     → plus es r x y ≡ true
 unfolding plus through
-plus-passes (k ∷ ks) r _ here x y p q =
-    or-right (plus ks r x y) _ (and-both (plus ks r x k) (plus ks r k y) (to-k (plus ks r x k) (plus ks r k k) p) (from-k (plus ks r k y) (plus ks r k k) q))
-  where
-    to-k : (a b : Bool) → a || (a && b) ≡ true → a ≡ true
-    to-k true b e = refl
-    to-k false b e = e
+plus-passes (k ∷ ks) r m (List·Memᴰ·head e) x y p q =
+    or-right (plus ks r x y) _ (and-both (plus ks r x k) (plus ks r k y)
+    (elim (or-either (plus ks r x k) _ (subst (λ i. through k (plus ks r) x i ≡ true) e p)) [ inl h ↦ h | inr h ↦ and-left (plus ks r x k) _ h ])
+    (elim (or-either (plus ks r k y) _ (subst (λ i. through k (plus ks r) i y ≡ true) e q)) [ inl h ↦ h | inr h ↦ and-right (plus ks r k k) _ h ]))
+plus-passes (k ∷ ks) r m (List·Memᴰ·tail i) x y p q = passes-on (plus ks r) k m (plus-passes ks r m i) x y p q
 
-    from-k : (a b : Bool) → a || (b && a) ≡ true → a ≡ true
-    from-k true b e = refl
-    from-k false true e = e
-    from-k false false e = e
-plus-passes (k ∷ ks) r m (there i) x y p q = passes-on (plus ks r) k m (plus-passes ks r m i) x y p q
-
-pub plus-complete : (es : List ℕ) (r : Rel) → ((x y : ℕ) → r x y ≡ true → Mem x es) → (x y : ℕ) → Steps r x y
+pub plus-complete : (es : List ℕ) (r : Rel) → ((x y : ℕ) → r x y ≡ true → List·Memᴰ x es) → (x y : ℕ) → Steps r x y
     → plus es r x y ≡ true
 plus-complete es r inside x y (one h) = plus-holds es r x y h
 plus-complete es r inside x z (more {y = y} a h) =

@@ -1,7 +1,8 @@
 -- Laws of the shown order: made event by event it is the definition, and without a ring every event comes out.
 use mathlib.Core.Path.{_≡_, refl, sym, ap, subst, _∙_}
 use mathlib.Core.List.{List, [], _∷_, _++_, append-assoc, append-nil}
-use mathlib.Core.Bool.{Bool, true, false, not, _&&_, false≢true}
+use mathlib.Core.Bool.{Bool, true, false, not, _&&_, false≢true, and-false}
+use mathlib.Core.Logic.{inl, inr}
 use Prim.Native.Nat.{ℕ, zero, suc, _+_, _-_, _<_, _≤_}
 use native.Mathlib.Numerals.{add-one}
 use native.Mathlib.Omega.{arith}
@@ -11,9 +12,11 @@ use lib.ListN.{length, take, set, length-set}
 use lib.Seq.{take-suc-set}
 use Rattle.relation.specs.Rel.{Set, Rel, single, intersection, difference, inverse, image, least, count, plus, nodes}
 use Rattle.relation.specs.Order.{ready, order, occurrences, EachOnce}
-use Rattle.relation.proofs.SetLaws.{and-false, and-true, Least, least-is, least-lt}
+use Rattle.relation.proofs.Truth.{is-false, by-test, and-left, and-right, and-both}
+use Rattle.relation.proofs.SetLaws.{Least, least-is, least-lt}
 use Rattle.relation.proofs.GridLaws.{inverse-back}
-use Rattle.relation.proofs.Meaning.{Steps, one, steps-join, and-left, and-right, and-both, mem-below, below-mem, image-sound, image-complete, plus-complete}
+use Rattle.relation.proofs.Meaning.{Steps, one, steps-join, mem-below, below-mem, image-sound, image-complete, plus-complete}
+use Rattle.relation.proofs.Counting.{count-le, count-lt, without-other, without-self, count-without}
 use Rattle.relation.proofs.Pigeonhole.{Twice, pigeonhole}
 use Rattle.relation.proofs.Walks.{Inside}
 
@@ -52,14 +55,10 @@ module _ (b : Rel) (s : Set) (k : ℕ) (t : Set) (f : ℕ) (meet : t ≡ interse
 
   unpreceded : 64 ≤ f → image nodes s (inverse b) k ≡ false
   unfolding intersection inverse
-  unpreceded h = go (image nodes s (inverse b) k) refl
-    where
-      go : (x : Bool) → image nodes s (inverse b) k ≡ x → image nodes s (inverse b) k ≡ false
-      go false e = e
-      go true e =
-          let (i, m, p, q) = image-sound nodes s (inverse b) k e in
-          let low : i < 64 = below-mem 64 i m in
-          absurd (false≢true (sym (meets .smaller i (omega arith)) ∙ and-both (b k i) (s i) q p))
+  unpreceded h =
+      is-false _
+      (λ e. let (i, m, p, q) = image-sound nodes s (inverse b) k e in
+      false≢true (sym (meets .smaller i (omega (arith, below-mem 64 i m))) ∙ and-both (b k i) (s i) q p))
 
   pub preceded-not-ready : (f ≡ 64 → ⊥) → ready (inverse b) s k ≡ false
   unfolding ready difference
@@ -103,80 +102,15 @@ out-all r s left at n h out =
     nothing-left : 64 ≤ n → 64 - n ≡ 0
     nothing-left q = omega arith
 
--- Counting: a member counts, and taking one out counts one less.
-count-cases : (n : ℕ) (s : Set) (b : Bool) → s n ≡ b → count (suc n) s ≡ elim b [ true ↦ suc (count n s) | false ↦ count n s ]
-unfolding count
-count-cases n s b e = rw (e, count)
-
-count-member : (n : ℕ) (s : Set) (j : ℕ) → j < n → s j ≡ true → 0 < count n s
-count-member zero s j h p = absurd (omega arith)
-count-member (suc n) s j h p =
-    elim (ℕ-discrete j n) [
-      | yes e ↦ let c = count-cases n s true (ap s (sym e) ∙ p) in omega arith
-      | no d ↦ let w = count-member n s j (omega (arith, d)) p in at-least (s n) refl w
-    ]
-  where
-    at-least : (b : Bool) → s n ≡ b → 0 < count n s → 0 < count (suc n) s
-    at-least true e w = let c = count-cases n s true e in omega arith
-    at-least false e w = let c = count-cases n s false e in omega arith
-
-count-bound : (n : ℕ) (s : Set) → count n s ≤ n
-unfolding count
-count-bound zero s = omega arith
-count-bound (suc n) s = go (s n) refl (count-bound n s)
-  where
-    go : (b : Bool) → s n ≡ b → count n s ≤ n → count (suc n) s ≤ suc n
-    go true e w = let c = count-cases n s true e in omega arith
-    go false e w = let c = count-cases n s false e in omega arith
-
-without-other : (s : Set) (k j : ℕ) → (k ≡ j → ⊥) → difference s (single k) j ≡ s j
-unfolding difference single
-without-other s k j d = rw (ne-eqb k j d) (and-true (s j))
-
-without-self : (s : Set) (k : ℕ) → difference s (single k) k ≡ false
-unfolding difference single
-without-self s k = rw (eq-eqb k k refl) (and-false (s k))
-
-count-same : (n : ℕ) (s t : Set) → ((j : ℕ) → j < n → s j ≡ t j) → count n s ≡ count n t
-unfolding count
-count-same zero s t e = refl
-count-same (suc n) s t e = same (s n) (t n) (e n (omega arith)) refl refl (count-same n s t (λ j h. e j (omega arith)))
-  where
-    same : (a b : Bool) → a ≡ b → s n ≡ a → t n ≡ b → count n s ≡ count n t → count (suc n) s ≡ count (suc n) t
-    same true true q x y w = count-cases n s true x ∙ ap suc w ∙ sym (count-cases n t true y)
-    same false false q x y w = count-cases n s false x ∙ w ∙ sym (count-cases n t false y)
-    same true false q x y w = absurd (false≢true (sym q))
-    same false true q x y w = absurd (false≢true q)
-
-count-without : (n : ℕ) (s : Set) (k : ℕ) → k < n → s k ≡ true → suc (count n (difference s (single k))) ≡ count n s
-count-without zero s k h p = absurd (omega arith)
-count-without (suc n) s k h p =
-    elim (ℕ-discrete k n) [
-      | yes e ↦ ap suc (count-cases n (difference s (single k)) false (ap (difference s (single k)) (sym e) ∙ without-self s k)
-          ∙ count-same n (difference s (single k)) s (λ j g. without-other s k j (omega arith)))
-          ∙ sym (count-cases n s true (ap s (sym e) ∙ p))
-      | no d ↦ one-less (s n) refl (count-without n s k (omega (arith, d)) p) d
-    ]
-  where
-    one-less : (b : Bool) → s n ≡ b → suc (count n (difference s (single k))) ≡ count n s → (k ≡ n → ⊥)
-        → suc (count (suc n) (difference s (single k))) ≡ count (suc n) s
-    one-less true e w d =
-        ap suc (count-cases n (difference s (single k)) true (without-other s k n d ∙ e)) ∙ ap suc w ∙ sym (count-cases n s true e)
-    one-less false e w d =
-        ap suc (count-cases n (difference s (single k)) false (without-other s k n d ∙ e)) ∙ w ∙ sym (count-cases n s false e)
-
 -- Where every event of s has one of s before it, r has a ring.
 module _ (r : Rel) (s : Set) (within : Inside r) (none : 64 ≤ least 64 (ready r s)) where
   preceded : (x : ℕ) → x < 64 → s x ≡ true → image nodes s r x ≡ true
   unfolding ready difference
-  preceded x h p = go (image nodes s r x) refl
-    where
-      go : (b : Bool) → image nodes s r x ≡ b → image nodes s r x ≡ true
-      go true e = e
-      go false e =
-          absurd
-          (false≢true
-          (sym (least-is 64 (ready r s) .smaller x (omega arith)) ∙ rw e (and-both (s x) true p refl)))
+  preceded x h p =
+      elim (by-test (image nodes s r x)) [
+        | inl e ↦ e
+        | inr e ↦ absurd (false≢true (sym (least-is 64 (ready r s) .smaller x (omega arith)) ∙ rw e (and-both (s x) true p refl)))
+      ]
 
   -- the event before: the least of s that leads to x
   previous : ℕ → ℕ
@@ -253,17 +187,13 @@ one-once s k l p rest e =
 
 -- A set without members below 64 or from 64 on.
 nowhere : (s : Set) → ((j : ℕ) → 64 ≤ j → s j ≡ false) → ((j : ℕ) → j < 64 → s j ≡ true → ⊥) → (e : ℕ) → s e ≡ false
-nowhere s high low e = elim (decLt e 64) [ yes h ↦ go (s e) refl h | no h ↦ high e (omega (arith, h)) ]
-  where
-    go : (b : Bool) → s e ≡ b → e < 64 → s e ≡ false
-    go false q h = q
-    go true q h = absurd (low e h q)
+nowhere s high low e = elim (decLt e 64) [ yes h ↦ is-false (s e) (low e h) | no h ↦ high e (omega (arith, h)) ]
 
 once-by : (r : Rel) → Inside r → ((y : ℕ) → plus nodes r y y ≡ false) → (n : ℕ) (s : Set) → ((j : ℕ) → 64 ≤ j → s j ≡ false)
     → count 64 s ≤ n → EachOnce s (order n r s)
 unfolding order
 once-by r within acyclic zero s high c =
-    none-once s (nowhere s high (λ j h p. let w = count-member 64 s j h p in omega arith))
+    none-once s (nowhere s high (λ j h p. omega (arith, count-lt j 64 s h p)))
 once-by r within acyclic (suc n) s high c =
     let k : ℕ = least 64 (ready r s) in
     elim (decLt k 64) [
@@ -279,4 +209,4 @@ once-by r within acyclic (suc n) s high c =
 
 pub each-once : (r : Rel) → Inside r → ((y : ℕ) → plus nodes r y y ≡ false) → (s : Set) → ((j : ℕ) → 64 ≤ j → s j ≡ false)
     → EachOnce s (order 64 r s)
-each-once r within acyclic s high = once-by r within acyclic 64 s high (count-bound 64 s)
+each-once r within acyclic s high = once-by r within acyclic 64 s high (count-le 64 s)

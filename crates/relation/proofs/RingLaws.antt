@@ -1,7 +1,7 @@
 -- Laws of the ring routine: its parts together find a ring exactly where there is one.
 use mathlib.Core.Path.{_≡_, refl, sym, ap, ap₂, subst, _∙_, fun-ext}
 use mathlib.Core.List.{List}
-use mathlib.Core.Bool.{Bool, true, false, _&&_, _||_, false≢true}
+use mathlib.Core.Bool.{Bool, true, false, _&&_, false≢true}
 use mathlib.Core.Logic.{_⊎_, inl, inr}
 use Prim.Native.Nat.{ℕ, zero, suc, _+_, _-_, _<_, _≤_}
 use native.Mathlib.Numerals.{add-one}
@@ -13,19 +13,18 @@ use lib.Dec.{eqb}
 use lib.ListN.{length, getD, set, take, length-set, List·getD-eq-default}
 use lib.Seq.{getD-set-same, getD-set-other, getD-take, length-take-le}
 use Rattle.relation.specs.Rel.{Set, Rel, empty, single, union, intersection, inverse, identity, image, compose, plus, either, diagonal, least, nodes}
-use Rattle.relation.specs.Bits.{bit, edge}
 use Rattle.relation.specs.Ring.{under, power, after, closed, Ring, RingOrNone, Shortest, Levels, StepsBack, Way, SmallestAt, Turned, turnedTo}
-use Rattle.relation.proofs.SetLaws.{least-is, least-lt}
-use Rattle.relation.proofs.GridLaws.{inverse-back, Rows, rows-set}
-use Rattle.relation.proofs.Meaning.{and-left, and-right, and-both, or-either, mem-below, below-mem, image-sound, compose-sound, compose-complete, plus-sound}
-use Rattle.relation.proofs.Walks.{Inside, Walk, stay, go, walk-join, steps-walk, power-sound, power-complete, shorten, walk-zero}
+use Rattle.relation.proofs.Truth.{is-false, and-left, and-right, and-both, or-either}
+use Rattle.relation.proofs.SetLaws.{single-only, least-is, least-lt}
+use Rattle.relation.proofs.GridLaws.{inverse-back}
+use Rattle.relation.proofs.Meaning.{mem-below, below-mem, image-sound, compose-sound, compose-complete, plus-sound}
+use Rattle.relation.proofs.Walks.{Inside, Walk, stay, walk-join, walk-along, steps-walk, power-sound, power-complete, shorten, walk-zero}
 use Rattle.relation.proofs.RingWalks.{getD-any, ClosedWalk, ring-walk}
 
 -- The row of one event is where every walk from it starts.
 pub power-zero : (r : Rel) (s : ℕ) (t u : Set) → s < 64 → t ≡ empty → u ≡ union t (single s) → u ≡ power zero r s
-unfolding power identity union single empty under
-power-zero r s t u h p e =
-    e ∙ fun-ext (λ j. ap (λ (f : Set). f j || eqb s j) p ∙ ap (λ (b : Bool). b && eqb s j) (sym (lt-ltb s 64 h)))
+unfolding power identity single under
+power-zero r s t u h p e = single-only s p e ∙ fun-ext (λ j. ap (λ (b : Bool). b && eqb s j) (sym (lt-ltb s 64 h)))
 
 pub power-suc : (r : Rel) (s k : ℕ) (t u : Set) → t ≡ power k r s → u ≡ image nodes t r → u ≡ power (k + 1) r s
 unfolding power compose
@@ -57,8 +56,8 @@ pub record Back (h b : Rel) (n x k y : ℕ) (at : List ℕ) : Type 0 where
   pub level : (j : ℕ) → k ≤ j → j ≤ n → h j (getD at j zero) ≡ true
   pub step : (j : ℕ) → k ≤ j → j < n → b (getD at (suc j) zero) (getD at j zero) ≡ true
 
-pub back-start : (h b : Rel) (n x : ℕ) (at : List ℕ) → length at ≡ 64 → n < 64 → x < 64 → h n x ≡ true → Back h b n x n x (set at n x)
-back-start h b n x at l hn hx p =
+pub back-start : {h b : Rel} {n x : ℕ} (at : List ℕ) → length at ≡ 64 → n < 64 → x < 64 → h n x ≡ true → Back h b n x n x (set at n x)
+back-start {n = n} {x} at l hn hx p =
     let same : getD (set at n x) n zero ≡ x = getD-set-same at n x zero (omega arith) in
     record {
       long = length-set at n x ∙ l;
@@ -71,38 +70,37 @@ back-start h b n x at l hn hx p =
     }
 
 -- The event before y: the least of its row that leads to y.
-pub back-pick : (h b : Rel) (n x k j y z : ℕ) (at : List ℕ) (c : Set) → j ≡ suc k → Levels h b → n < 64 → Back h b n x j y at
-    → c ≡ intersection (h k) (b y) → z ≡ least 64 c → Picked (h k) (inverse b) y z
-unfolding inverse
-back-pick h b n x k j y z at c e w hn s p l =
-    let up : h (suc k) y ≡ true = subst (λ (i : ℕ). h i y ≡ true) e (rw (s .here) at (s .level j (omega arith) (s .bound))) in
-    picked (h k) c (inverse b) y z (sym (ap (λ (f : Set). f y) (w .leads k (omega (arith, s .bound)))) ∙ up) p l
+module _ {h b : Rel} {n x j y : ℕ} {at : List ℕ} (w : Back h b n x j y at) (hn : n < 64) {k z : ℕ} (e : j ≡ suc k) where
+  pub back-pick : Levels h b → {c : Set} → c ≡ intersection (h k) (b y) → z ≡ least 64 c → Picked (h k) (inverse b) y z
+  unfolding inverse
+  back-pick levels {c} p l =
+      let up : h (suc k) y ≡ true = subst (λ (i : ℕ). h i y ≡ true) e (rw (w .here) at (w .level j (omega arith) (w .bound))) in
+      picked (h k) c (inverse b) y z (sym (ap (λ (f : Set). f y) (levels .leads k (omega (arith, w .bound)))) ∙ up) p l
 
-pub back-more : (h b : Rel) (n x k top y z : ℕ) (at : List ℕ) → top ≡ suc k → Back h b n x top y at → n < 64 → Picked (h k) (inverse b) y z
-    → Back h b n x k z (set at k z)
-unfolding inverse
-back-more h b n x k top y z at e w hn p =
-    let same : getD (set at k z) k zero ≡ z = getD-set-same at k z zero (omega (arith, w .long, w .bound)) in
-    let kept : (j : ℕ) → suc k ≤ j → getD (set at k z) j zero ≡ getD at j zero
-    = λ j q. getD-set-other at k j z zero (omega arith) in
-    record {
-      long = length-set at k z ∙ w .long;
-      bound = omega (arith, w .bound);
-      inside = p .inside;
-      end = kept n (omega (arith, w .bound)) ∙ w .end;
-      here = same;
-      level = λ j a c. elim (ℕ-discrete j k) [
-        | yes q ↦ rw (q, same) (p .member)
-        | no d ↦ rw (kept j (omega (arith, d))) (w .level j (omega (arith, d)) c)
-      ];
-      step = λ j a c. elim (ℕ-discrete j k) [
-        | yes q ↦ rw (q, same, kept (suc k) (omega arith), ap (λ (i : ℕ). getD at i zero) (sym e), w .here) (p .leads)
-        | no d ↦ rw (kept j (omega (arith, d)), kept (suc j) (omega (arith, d))) (w .step j (omega (arith, d)) c)
-      ];
-    }
+  pub back-more : Picked (h k) (inverse b) y z → Back h b n x k z (set at k z)
+  unfolding inverse
+  back-more p =
+      let same : getD (set at k z) k zero ≡ z = getD-set-same at k z zero (omega (arith, w .long, w .bound)) in
+      let kept : (j : ℕ) → suc k ≤ j → getD (set at k z) j zero ≡ getD at j zero
+      = λ j q. getD-set-other at k j z zero (omega arith) in
+      record {
+        long = length-set at k z ∙ w .long;
+        bound = omega (arith, w .bound);
+        inside = p .inside;
+        end = kept n (omega (arith, w .bound)) ∙ w .end;
+        here = same;
+        level = λ j a c. elim (ℕ-discrete j k) [
+          | yes q ↦ rw (q, same) (p .member)
+          | no d ↦ rw (kept j (omega (arith, d))) (w .level j (omega (arith, d)) c)
+        ];
+        step = λ j a c. elim (ℕ-discrete j k) [
+          | yes q ↦ rw (q, same, kept (suc k) (omega arith), ap (λ (i : ℕ). getD at i zero) (sym e), w .here) (p .leads)
+          | no d ↦ rw (kept j (omega (arith, d)), kept (suc j) (omega (arith, d))) (w .step j (omega (arith, d)) c)
+        ];
+      }
 
-pub back-all : (h b : Rel) (n x k y : ℕ) (at : List ℕ) → Back h b n x k y at → k ≤ 0 → StepsBack h b n x at
-back-all h b n x k y at w p =
+pub back-all : {h b : Rel} {n x k y : ℕ} {at : List ℕ} → Back h b n x k y at → k ≤ 0 → StepsBack h b n x at
+back-all w p =
     record {
       long = w .long;
       end = w .end;
@@ -120,15 +118,15 @@ levels-lead r h b s w p =
     }
 
 -- The last event of a way: the least that n steps reach and that e closes.
-pub closing-pick : (r e h : Rel) (s n x : ℕ) (c : Set) → n < 64 → ((k : ℕ) → k < 64 → h k ≡ power k r s)
+pub closing-pick : (r : Rel) {e h : Rel} {s n x : ℕ} {c : Set} → n < 64 → ((k : ℕ) → k < 64 → h k ≡ power k r s)
     → compose nodes (power n r) e s s ≡ true → c ≡ intersection (h n) (inverse e s) → x ≡ least 64 c → Picked (h n) e s x
 unfolding compose
-closing-pick r e h s n x c hn w p q l = picked (h n) c e s x (rw (w n hn) p) q l
+closing-pick r {n = n} hn w p q l = picked _ _ _ _ _ (rw (w n hn) p) q l
 
-pub way-of-steps : (r e h b : Rel) (s n x : ℕ) (at : List ℕ) → n < 64 → ((k : ℕ) → k < 64 → h k ≡ power k r s) → b ≡ inverse r
+pub way-of-steps : {r e h b : Rel} {s n x : ℕ} {at : List ℕ} → n < 64 → ((k : ℕ) → k < 64 → h k ≡ power k r s) → b ≡ inverse r
     → e x s ≡ true → StepsBack h b n x at → Way r e s n at
 unfolding inverse
-way-of-steps r e h b s n x at hn w p c t =
+way-of-steps {at = at} hn w p c t =
     record {
       long = t .long;
       level = λ k q. sym (ap (λ (f : Set). f (getD at k zero)) (w k (omega arith))) ∙ t .level k q;
@@ -136,19 +134,18 @@ way-of-steps r e h b s n x at hn w p c t =
       close = rw (t .end) c;
     }
 
--- What a walk of n steps from s that e closes comes to.
-closes : (r e : Rel) → Inside r → (n s x : ℕ) → s < 64 → x < 64 → Walk r s n x → e x s ≡ true → compose nodes (power n r) e s s ≡ true
-closes r e i n s x hs hx w c = compose-complete nodes (power n r) e s x s (mem-below 64 x hx) (power-complete r i n s x hs w) c
+-- What a closed walk of n steps comes to.
+closes : {r e : Rel} {n : ℕ} → Inside r → Inside e → (c : ClosedWalk r e n) → compose nodes (power n r) e (c .start) (c .start) ≡ true
+closes {r} {e} {n} ir ie c =
+    compose-complete nodes (power n r) e (c .start) (c .end) (c .start) (mem-below 64 (c .end) (ie .source (c .end) (c .start) (c .close)))
+    (power-complete r ir n (c .start) (c .end) (ie .target (c .end) (c .start) (c .close)) (c .walk)) (c .close)
 
 -- No closed walk has fewer steps than the shortest, and no ring has fewer events than that has: one more than steps.
 pub no-shorter : (r e : Rel) → Inside r → Inside e → (n s m : ℕ) → Shortest r e n s → ClosedWalk r e m → n ≤ m
 no-shorter r e ir ie n s m w c =
     elim (decLt m n) [
       | no h ↦ omega (arith, h)
-      | yes h ↦ absurd
-          (false≢true
-          (sym (w .fewest m (omega arith) (c .start))
-          ∙ closes r e ir m (c .start) (c .end) (ie .target (c .end) (c .start) (c .close)) (ie .source (c .end) (c .start) (c .close)) (c .walk) (c .close)))
+      | yes h ↦ absurd (false≢true (sym (w .fewest m (omega arith) (c .start)) ∙ closes ir ie c))
     ]
 
 no-shorter-ring : (r e : Rel) → Inside r → Inside e → (n s : ℕ) → Shortest r e n s → (l : List ℕ) → Ring r e l → n + 1 ≤ length l
@@ -159,7 +156,7 @@ no-shorter-ring r e ir ie n s w l ring =
 -- Where 64 steps are not enough to come back, no number is.
 pub none-back : (r e : Rel) → Inside r → Inside e → (n s : ℕ) → 64 ≤ n → Shortest r e n s → (i : ℕ) → closed r e i i ≡ false
 unfolding closed either union
-none-back r e ir ie n s h w i = go-by (e i i || compose nodes (plus nodes r) e i i) refl
+none-back r e ir ie n s h w i = is-false _ (λ p. elim (or-either (e i i) (compose nodes (plus nodes r) e i i) p) [ inl c ↦ direct c | inr c ↦ around c ])
   where
     short : (m x : ℕ) → m < 64 → Walk r i m x → e x i ≡ true → ⊥
     short m x hm a c = (let least = no-shorter r e ir ie n s m w (record { start = i; end = x; walk = a; close = c }) in omega arith)
@@ -174,18 +171,11 @@ none-back r e ir ie n s h w i = go-by (e i i || compose nodes (plus nodes r) e i
         let (l, hl, v) = shorten r ir (suc k) (suc k) i x (omega arith) (ie .target x i c) u in
         short l x hl v c
 
-    go-by : (b : Bool) → e i i || compose nodes (plus nodes r) e i i ≡ b → e i i || compose nodes (plus nodes r) e i i ≡ false
-    go-by false p = p
-    go-by true p = absurd (elim (or-either (e i i) _ p) [ inl c ↦ direct c | inr c ↦ around c ])
-
 -- The events of a shortest way are distinct: what lies between two that are equal could be left out.
 module _ (r e : Rel) (ir : Inside r) (ie : Inside e) (s n : ℕ) (at : List ℕ) (shortest : Shortest r e n s) (lt : n < 64)
     (way : Way r e s n at) where
   part : (j d : ℕ) → j + d ≤ n → Walk r (getD at j zero) d (getD at (j + d) zero)
-  part j zero h = subst (λ (k : ℕ). Walk r (getD at j zero) zero (getD at k zero)) (omega arith) stay
-  part j (suc d) h =
-      subst (λ (k : ℕ). Walk r (getD at j zero) (suc d) (getD at k zero)) (omega arith)
-      (go (part j d (omega arith)) (way .step (j + d) (omega arith)))
+  part j d h = walk-along (λ k. getD at k zero) j d (λ k p q. way .step k (omega arith))
 
   way-distinct : (i j : ℕ) → i < j → j ≤ n → getD at i zero ≡ getD at j zero → ⊥
   way-distinct i j a b p =
@@ -232,32 +222,32 @@ by-cases (inl a) (inr d) p q s t = q a d
 by-cases (inr b) (inl c) p q s t = s b c
 by-cases (inr b) (inr d) p q s t = t b d
 
-same-place : (i j m n a b : ℕ) → i < n → j < n → Place i m n a → Place j m n b → a ≡ b → i ≡ j
-same-place i j m n a b hi hj p q e =
+same-place : {i j m n a b : ℕ} → i < n → j < n → Place i m n a → Place j m n b → a ≡ b → i ≡ j
+same-place hi hj p q e =
     by-cases (p .from) (q .from) (λ x y. omega arith) (λ x y. absurd (omega (arith, p .inside)))
     (λ x y. absurd (omega (arith, q .inside))) (λ x y. omega arith)
 
-next-place : (k m n a b : ℕ) → Place k m (n + 1) a → Place (suc k) m (n + 1) b → (a ≡ n → ⊥) → b ≡ suc a
-next-place k m n a b p q d =
+next-place : {k m n a b : ℕ} → Place k m (n + 1) a → Place (suc k) m (n + 1) b → (a ≡ n → ⊥) → b ≡ suc a
+next-place p q d =
     by-cases (p .from) (q .from) (λ x y. omega arith) (λ x y. absurd (omega (arith, p .inside, d, q .inside)))
     (λ x y. absurd (omega (arith, q .inside))) (λ x y. omega arith)
 
-wrapped-place : (k m n a b : ℕ) → Place k m (n + 1) a → Place (suc k) m (n + 1) b → k < n → m ≤ n → a ≡ n → b ≡ 0
-wrapped-place k m n a b p q h g e =
+wrapped-place : {k m n a b : ℕ} → Place k m (n + 1) a → Place (suc k) m (n + 1) b → k < n → m ≤ n → a ≡ n → b ≡ 0
+wrapped-place p q h g e =
     by-cases (p .from) (q .from) (λ x y. absurd (omega (arith, q .inside))) (λ x y. omega arith)
     (λ x y. absurd (omega arith)) (λ x y. absurd (omega arith))
 
-zero-place : (m n a : ℕ) → Place 0 m n a → m < n → a ≡ m
-zero-place m n a p h = elim (p .from) [ inl x ↦ omega arith | inr x ↦ absurd (omega arith) ]
+zero-place : {m n a : ℕ} → Place 0 m n a → m < n → a ≡ m
+zero-place p h = elim (p .from) [ inl x ↦ omega arith | inr x ↦ absurd (omega arith) ]
 
-last-place : (m n a : ℕ) → Place n m (n + 1) a → m ≤ n → (a ≡ n → ⊥) → m ≡ suc a
-last-place m n a p h d = elim (p .from) [ inl x ↦ absurd (omega (arith, d, p .inside)) | inr x ↦ omega arith ]
+last-place : {m n a : ℕ} → Place n m (n + 1) a → m ≤ n → (a ≡ n → ⊥) → m ≡ suc a
+last-place p h d = elim (p .from) [ inl x ↦ absurd (omega (arith, d, p .inside)) | inr x ↦ omega arith ]
 
-last-back : (m n a : ℕ) → Place n m (n + 1) a → m ≤ n → a ≡ n → m ≡ 0
-last-back m n a p h e = elim (p .from) [ inl x ↦ omega arith | inr x ↦ absurd (omega arith) ]
+last-back : {m n a : ℕ} → Place n m (n + 1) a → m ≤ n → a ≡ n → m ≡ 0
+last-back p h e = elim (p .from) [ inl x ↦ omega arith | inr x ↦ absurd (omega arith) ]
 
-end-place : (k m n a : ℕ) → Place k m (n + 1) a → k < n + 1 → m ≤ n → a ≡ n → k ≡ n - m
-end-place k m n a p h g e = elim (p .from) [ inl x ↦ omega arith | inr x ↦ absurd (omega arith) ]
+end-place : {k m n a : ℕ} → Place k m (n + 1) a → k < n + 1 → m ≤ n → a ≡ n → k ≡ n - m
+end-place p h g e = elim (p .from) [ inl x ↦ omega arith | inr x ↦ absurd (omega arith) ]
 
 -- A way that comes round to a smallest event is a ring.
 module _ (r e : Rel) (ir : Inside r) (ie : Inside e) (s n : ℕ) (at : List ℕ) (shortest : Shortest r e n s) (lt : n < 64)
@@ -296,7 +286,7 @@ module _ (r e : Rel) (ir : Inside r) (ie : Inside e) (s n : ℕ) (at : List ℕ)
 
       first-event : getD (take len out) zero zero ≡ getD at m zero
       first-event = event zero zero (omega arith)
-          ∙ ap (λ (j : ℕ). getD at j zero) (zero-place m (n + 1) (from zero) (at-place zero (omega arith)) (omega (arith, shift-le)))
+          ∙ ap (λ (j : ℕ). getD at j zero) (zero-place (at-place zero (omega arith)) (omega (arith, shift-le)))
 
       -- the event after the last place is the first
       wraps : (k : ℕ) → k ≡ n → after (take len out) k ≡ getD at m zero
@@ -307,10 +297,10 @@ module _ (r e : Rel) (ir : Inside r) (ie : Inside e) (s n : ℕ) (at : List ℕ)
           elim (decLt k n) [
             | yes g ↦ event (suc k) _ (omega arith)
                 ∙ ap (λ (j : ℕ). getD at j zero)
-                (next-place k m n (from k) (from (suc k)) (at-place k h) (at-place (suc k) (omega arith)) d)
+                (next-place (at-place k h) (at-place (suc k) (omega arith)) d)
             | no g ↦ let q : k ≡ n = omega (arith, g) in
                 wraps k q
-                ∙ ap (λ (j : ℕ). getD at j zero) (last-place m n (from k) (subst (λ (x : ℕ). Place x m (n + 1) (from k)) q (at-place k h)) shift-le d)
+                ∙ ap (λ (j : ℕ). getD at j zero) (last-place (subst (λ (x : ℕ). Place x m (n + 1) (from k)) q (at-place k h)) shift-le d)
           ]
 
       back : (k : ℕ) → k < n + 1 → from k ≡ n → after (take len out) k ≡ s
@@ -318,11 +308,11 @@ module _ (r e : Rel) (ir : Inside r) (ie : Inside e) (s n : ℕ) (at : List ℕ)
           elim (decLt k n) [
             | yes g ↦ event (suc k) _ (omega arith)
                 ∙ ap (λ (j : ℕ). getD at j zero)
-                (wrapped-place k m n (from k) (from (suc k)) (at-place k h) (at-place (suc k) (omega arith)) g shift-le e′)
+                (wrapped-place (at-place k h) (at-place (suc k) (omega arith)) g shift-le e′)
                 ∙ sym start
             | no g ↦ let q : k ≡ n = omega (arith, g) in
                 wraps k q
-                ∙ ap (λ (j : ℕ). getD at j zero) (last-back m n (from k) (subst (λ (x : ℕ). Place x m (n + 1) (from k)) q (at-place k h)) shift-le e′)
+                ∙ ap (λ (j : ℕ). getD at j zero) (last-back (subst (λ (x : ℕ). Place x m (n + 1) (from k)) q (at-place k h)) shift-le e′)
                 ∙ sym start
           ]
         where
@@ -335,7 +325,7 @@ module _ (r e : Rel) (ir : Inside r) (ie : Inside e) (s n : ℕ) (at : List ℕ)
           let pi = at-place i (omega arith) in
           let pj = at-place j b in
           elim (ℕ-discrete (from i) (from j)) [
-            | yes q ↦ let w = same-place i j m (n + 1) (from i) (from j) (omega arith) b pi pj q in omega arith
+            | yes q ↦ let w = same-place (omega arith) b pi pj q in omega arith
             | no d ↦ elim (decLt (from i) (from j)) [
               | yes q ↦ apart (from i) (from j) q (omega (arith, pj .inside)) same
               | no q ↦ apart (from j) (from i) (omega (arith, d, q)) (omega (arith, pi .inside)) (sym same)
@@ -356,20 +346,19 @@ module _ (r e : Rel) (ir : Inside r) (ie : Inside e) (s n : ℕ) (at : List ℕ)
 
       step-at : (k : ℕ) → k < n + 1 → (k ≡ n - m → ⊥) → r (getD (take len out) k zero) (after (take len out) k) ≡ true
       step-at k h d =
-          let inner : from k ≡ n → ⊥ = λ q. d (end-place k m n (from k) (at-place k h) h shift-le q) in
+          let inner : from k ≡ n → ⊥ = λ q. d (end-place (at-place k h) h shift-le q) in
           rw (event k zero h, next k h inner) (way .step (from k) (omega (arith, inner, at-place k h .inside)))
 
       close-at : e (getD (take len out) (n - m) zero) (after (take len out) (n - m)) ≡ true
       close-at = rw (event (n - m) zero closing-in, back (n - m) closing-in closing-end, closing-end) (way .close)
 
 -- The answer of the ring routine.
-pub ring-none : (r e : Rel) → Inside r → Inside e → (n s : ℕ) → 64 ≤ n → Shortest r e n s → (l : List ℕ) → length l ≡ zero
-    → RingOrNone r e l
-ring-none r e ir ie n s h w l p = record { none = λ q. none-back r e ir ie n s h w; ring = λ q. absurd (omega arith) }
+pub ring-none : {r e : Rel} {n s : ℕ} {l : List ℕ} → Inside r → Inside e → Shortest r e n s → 64 ≤ n → length l ≡ zero → RingOrNone r e l
+ring-none ir ie w h p = record { none = λ q. none-back _ _ ir ie _ _ h w; ring = λ q. absurd (omega arith) }
 
-pub ring-some : (r e : Rel) → Inside r → Inside e → (n s : ℕ) (at : List ℕ) → n < 64 → Shortest r e n s → Way r e s n at
-    → (len : ℕ) (out : List ℕ) (k : ℕ) → Turned at k len out → k ≡ n + 1 → RingOrNone r e (take len out)
-ring-some r e ir ie n s at h w y len out k turned all =
+pub ring-some : {r e : Rel} {n s k len : ℕ} {at out : List ℕ} → Inside r → Inside e → Shortest r e n s → n < 64 → Way r e s n at
+    → Turned at k len out → k ≡ n + 1 → RingOrNone r e (take len out)
+ring-some {r} {e} {n} {s} {len = len} {at} {out} ir ie w h y turned all =
     let t : Turned at (n + 1) len out = subst (λ (m : ℕ). Turned at m len out) all turned in
     let long : length (take len out) ≡ n + 1 = length-take-le len out (omega (arith, t .same, t .long)) ∙ t .same in
     record {
@@ -388,20 +377,6 @@ power-identity r p s a b = b ∙ ap identity a
 pub power-then : (r p q : Rel) (n : ℕ) → p ≡ power n r → q ≡ compose nodes p r → q ≡ power (n + 1) r
 unfolding power
 power-then r p q n a b = rw (add-one n) (b ∙ ap (λ (f : Rel). compose nodes f r) a)
-
--- Row k: what exactly k steps reach from s.
-unfoldable pub reached : Rel → ℕ → Rel
-reached r s k = power k r s
-
-pub reached-done : (r e : Rel) (s : ℕ) (h : List (List ℕ)) (n : ℕ) → 64 ≤ n → Rows (reached r s) e h n
-    → (k : ℕ) → k < 64 → edge h k ≡ power k r s
-unfolding edge reached
-reached-done r e s h n p w k q = w .done k (omega arith)
-
-pub reached-more : (r e : Rel) (s : ℕ) (h : List (List ℕ)) (k : ℕ) (x : List ℕ) → Rows (reached r s) e h k → k < 64
-    → bit x ≡ power k r s → Rows (reached r s) e (set h k x) (k + 1)
-unfolding reached
-reached-more r e s h k x w p q = rows-set (reached r s) e h k x w p q
 
 -- A closing relation may be given the other way round.
 pub shortest-by : (r b e : Rel) (n s : ℕ) → b ≡ inverse e → Shortest r (inverse b) n s → Shortest r e n s
@@ -448,18 +423,18 @@ pub record Turning (at : List ℕ) (n m : ℕ) (out : List ℕ) (k : ℕ) : Type
   pub long : length out ≡ 64
   pub each : (j : ℕ) → j < k → getD out j zero ≡ getD at (turnedTo j m n) zero
 
-pub turning-none : (at : List ℕ) (n m : ℕ) (out : List ℕ) → length out ≡ 64 → Turning at n m out 0
-turning-none at n m out l = record { long = l; each = λ j h. absurd (omega arith) }
+pub turning-none : {at : List ℕ} {n m : ℕ} {out : List ℕ} → length out ≡ 64 → Turning at n m out 0
+turning-none l = record { long = l; each = λ j h. absurd (omega arith) }
 
-pub turning-more : (at : List ℕ) (n m : ℕ) (out : List ℕ) (k j : ℕ) → Turning at n m out k → k < 64 → j ≡ turnedTo k m n
+pub turning-more : {at : List ℕ} {n m : ℕ} {out : List ℕ} {k j : ℕ} → Turning at n m out k → k < 64 → j ≡ turnedTo k m n
     → Turning at n m (set out k (getD at j zero)) (k + 1)
-turning-more at n m out k j w h e =
+turning-more {at} {out = out} {k} w h e =
     record {
       long = length-set out k _ ∙ w .long;
       each = below-more _ k (λ i q. getD-set-other out k i _ zero (omega arith) ∙ w .each i q)
           (getD-set-same out k _ zero (omega (arith, w .long)) ∙ ap (λ (i : ℕ). getD at i zero) e);
     }
 
-pub turning-all : (at : List ℕ) (n m : ℕ) (out : List ℕ) (k : ℕ) → n ≤ k → Turning at n m out k → SmallestAt at n m → Turned at n n out
-turning-all at n m out k h w s =
+pub turning-all : {at : List ℕ} {n m : ℕ} {out : List ℕ} {k : ℕ} → n ≤ k → Turning at n m out k → SmallestAt at n m → Turned at n n out
+turning-all {m = m} h w s =
     record { same = refl; long = w .long; shift = m; front = s; each = λ j q. w .each j (omega arith) }

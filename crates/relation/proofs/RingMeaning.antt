@@ -1,14 +1,14 @@
 -- What a ring means: there is one exactly where an event comes back to itself.
-use mathlib.Core.Path.{_≡_, refl, sym, _∙_}
+use mathlib.Core.Path.{_≡_, sym, _∙_}
 use mathlib.Core.List.{List}
-use mathlib.Core.Bool.{Bool, true, false, _||_, false≢true}
-use mathlib.Core.Logic.{inl, inr}
+use mathlib.Core.Bool.{true, false, _||_, false≢true}
 use Prim.Native.Nat.{ℕ, zero, suc, _-_}
 use native.Mathlib.Omega.{arith}
 use lib.ListN.{length}
 use Rattle.relation.specs.Rel.{Rel, either, union, compose, plus, nodes}
 use Rattle.relation.specs.Ring.{closed, Ring, RingOrNone}
-use Rattle.relation.proofs.Meaning.{Steps, one, more, or-either, or-left, or-right, mem-below, compose-sound, compose-complete, plus-sound, plus-holds, plus-complete}
+use Rattle.relation.proofs.Truth.{is-false, or-left, or-right}
+use Rattle.relation.proofs.Meaning.{Steps, one, more, mem-below, compose-complete, plus-sound, plus-complete}
 use Rattle.relation.proofs.Walks.{Inside, Walk, stay, walk-steps}
 use Rattle.relation.proofs.RingWalks.{ring-walk}
 
@@ -24,15 +24,7 @@ closed-of-walk r e ir ie (suc n) x y w c =
     or-right (e x x) _
     (compose-complete nodes (plus nodes r) e x y x (mem-below 64 y (ie .source y x c)) (plus-of-steps r ir x y (walk-steps w)) c)
 
--- Where e is r, to come back is to reach oneself.
-pub closed-plus : (r : Rel) → Inside r → (x : ℕ) → closed r r x x ≡ true → plus nodes r x x ≡ true
-unfolding closed either union
-closed-plus r i x p =
-    elim (or-either (r x x) _ p) [
-      | inl h ↦ plus-holds nodes r x x h
-      | inr h ↦ let (y, m, a, b) = compose-sound nodes (plus nodes r) r x x h in plus-of-steps r i x x (more (plus-sound nodes r x y a) b)
-    ]
-
+-- Where e is r, who reaches oneself comes back.
 pub plus-closed : (r : Rel) → Inside r → (x : ℕ) → plus nodes r x x ≡ true → closed r r x x ≡ true
 unfolding closed either union
 plus-closed r i x p = last-step (plus-sound nodes r x x p)
@@ -50,8 +42,4 @@ ring-comes-back r e ir ie l ring =
 
 -- The answer of the ring routine, for a relation and itself: no event reaches itself, or there is a ring.
 pub acyclic-of-none : (r : Rel) → Inside r → (l : List ℕ) → RingOrNone r r l → length l ≡ zero → (x : ℕ) → plus nodes r x x ≡ false
-acyclic-of-none r i l w p x = go-by (plus nodes r x x) refl
-  where
-    go-by : (b : Bool) → plus nodes r x x ≡ b → plus nodes r x x ≡ false
-    go-by false q = q
-    go-by true q = absurd (false≢true (sym (w .none p x) ∙ plus-closed r i x q))
+acyclic-of-none r i l w p x = is-false _ (λ q. false≢true (sym (w .none p x) ∙ plus-closed r i x q))

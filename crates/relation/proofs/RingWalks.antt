@@ -8,7 +8,7 @@ use native.Mathlib.Decide.{decLt}
 use lib.ListN.{length, getD, List·getD-eq-default}
 use Rattle.relation.specs.Rel.{Rel}
 use Rattle.relation.specs.Ring.{after, Ring}
-use Rattle.relation.proofs.Walks.{Walk, stay, go, counted, walk-join}
+use Rattle.relation.proofs.Walks.{Walk, go, counted, walk-join, walk-along}
 
 -- A walk of n steps of r that a step of e closes.
 pub record ClosedWalk (r e : Rel) (n : ℕ) : Type 0 where
@@ -32,11 +32,7 @@ module _ (r e : Rel) (l : List ℕ) (ring : Ring r e l) where
 
   -- the steps from place a, none of them the closing one
   segment : (a d : ℕ) → a + d < length l → ((k : ℕ) → a ≤ k → k < a + d → k ≡ ring .closing → ⊥) → Walk r (at a) d (at (a + d))
-  segment a zero h off = let e : a ≡ a + 0 = omega arith in subst (λ (k : ℕ). Walk r (at a) zero (at k)) e stay
-  segment a (suc d) h off =
-      let e : suc (a + d) ≡ a + suc d = omega arith in
-      subst (λ (k : ℕ). Walk r (at a) (suc d) (at k)) e
-      (go (segment a d (omega arith) (λ k p q. off k p (omega arith))) (inner (a + d) (omega arith) (off (a + d) (omega arith) (omega arith))))
+  segment a d h off = walk-along at a d (λ k p q. inner k (omega arith) (off k p q))
 
   -- A ring of n + 1 events has n steps of r and the closing one.
   pub ring-walk : (n : ℕ) → suc n ≡ length l → ClosedWalk r e n

@@ -1,6 +1,6 @@
 -- Laws of sets of events: membership in a list, the least member, counting, and sets filled number by number.
 use mathlib.Core.Path.{_≡_, refl, sym, ap, ap₂, subst, _∙_, fun-ext}
-use mathlib.Core.Bool.{Bool, true, false, _&&_, _||_, false≢true}
+use mathlib.Core.Bool.{Bool, true, false, _&&_, _||_, false≢true, or-false, and-false, and-true}
 use Prim.Native.Nat.{ℕ, zero, suc, _+_, _-_, _<_, _≤_}
 use native.Mathlib.Numerals.{add-one}
 use native.Mathlib.Omega.{arith}
@@ -8,32 +8,6 @@ use native.Mathlib.Decide.{ℕ-discrete, decLt}
 use borrow.Author.Tests.{eq-eqb, ne-eqb, lt-ltb, le-ltb}
 use lib.Dec.{eqb, ltb}
 use Rattle.relation.specs.Rel.{Set, Next, empty, single, given, union, least, count}
-
-pub or-comm : (a b : Bool) → a || b ≡ b || a
-or-comm true true = refl
-or-comm true false = refl
-or-comm false true = refl
-or-comm false false = refl
-
-pub or-assoc : (a b c : Bool) → (a || b) || c ≡ a || (b || c)
-or-assoc true b c = refl
-or-assoc false b c = refl
-
-pub or-false : (x : Bool) → x || false ≡ x
-or-false true = refl
-or-false false = refl
-
-pub and-false : (x : Bool) → x && false ≡ false
-and-false true = refl
-and-false false = refl
-
-pub and-true : (x : Bool) → x && true ≡ x
-and-true true = refl
-and-true false = refl
-
-pub or-true : (x : Bool) → x || true ≡ true
-or-true true = refl
-or-true false = refl
 
 -- A set where a test holds.
 pub given-yes : (b : Bool) (s : Set) → b ≡ true → s ≡ given b s
@@ -43,6 +17,11 @@ given-yes b s e = fun-ext (λ j. ap (λ (x : Bool). x && s j) (sym e))
 pub given-no : (b : Bool) (s : Set) → b ≡ false → empty ≡ given b s
 unfolding given empty
 given-no b s e = fun-ext (λ j. ap (λ (x : Bool). x && s j) (sym e))
+
+-- No event, then one.
+pub single-only : {t u : Set} (k : ℕ) → t ≡ empty → u ≡ union t (single k) → u ≡ single k
+unfolding union empty
+single-only k p e = e ∙ ap (λ (s : Set). union s (single k)) p
 
 -- The least member.
 pub least-at : (n : ℕ) (s : Set) (k : ℕ) → k < n → s k ≡ true → ((m : ℕ) → m < k → s m ≡ false) → least n s ≡ k
@@ -186,6 +165,25 @@ upto-done k n s t h p out =
       | yes g ↦ ap (λ (b : Bool). b && s j) (lt-ltb j k (omega arith))
       | no g ↦ ap (λ (b : Bool). ltb j k && b) (out j (omega (arith, g))) ∙ and-false (ltb j k) ∙ sym (out j (omega (arith, g)))
     ])
+
+-- t is filled so, up to k; s holds no number from 64 on.
+pub record Filled (s t : Set) (k : ℕ) : Type 0 where
+  pub high : k ≤ 64
+  pub holds : t ≡ upto k s
+  pub out : (m : ℕ) → 64 ≤ m → s m ≡ false
+
+pub filled-start : {s t : Set} → t ≡ empty → ((m : ℕ) → 64 ≤ m → s m ≡ false) → Filled s t 0
+filled-start p out = record { high = omega arith; holds = p ∙ upto-none _; out = out }
+
+module _ {s t : Set} {k : ℕ} (w : Filled s t k) where
+  pub filled-with : {u : Set} → k < 64 → s k ≡ true → u ≡ union t (single k) → Filled s u (k + 1)
+  filled-with h e p = record { high = omega arith; holds = p ∙ upto-with k s t (w .holds) e; out = w .out }
+
+  pub filled-keep : k < 64 → s k ≡ false → Filled s t (k + 1)
+  filled-keep h e = record { high = omega arith; holds = upto-keep k s t (w .holds) e; out = w .out }
+
+  pub filled-all : 64 ≤ k → t ≡ s
+  filled-all h = upto-done k 64 s t h (w .holds) (w .out)
 
 -- Counting.
 pub count-yes : (n : ℕ) (s : Set) → s n ≡ true → count (n + 1) s ≡ count n s + 1

@@ -13,7 +13,8 @@ use Rattle.relation.specs.Bits.{edge}
 use Rattle.relation.specs.Ring.{under, power}
 use Rattle.relation.proofs.ByteLaws.{bit-out}
 use Rattle.relation.proofs.GridLaws.{edge-out}
-use Rattle.relation.proofs.Meaning.{Steps, one, more, and-right, and-both, mem-below, compose-sound, compose-complete}
+use Rattle.relation.proofs.Truth.{and-right, and-both}
+use Rattle.relation.proofs.Meaning.{Steps, one, more, mem-below, compose-sound, compose-complete}
 use Rattle.relation.proofs.Pigeonhole.{Twice, pigeonhole}
 
 -- A relation between numbers below 64.
@@ -43,6 +44,13 @@ walk-zero stay = refl
 pub walk-join : {r : Rel} {x y z m n : ℕ} → Walk r x m y → Walk r y n z → Walk r x (n + m) z
 walk-join a stay = counted (omega arith) a
 walk-join a (go b h) = counted (omega arith) (go (walk-join a b) h)
+
+-- The steps from f a to f (a + d), one after the other.
+pub walk-along : {r : Rel} (f : ℕ → ℕ) (a d : ℕ) → ((k : ℕ) → a ≤ k → k < a + d → r (f k) (f (suc k)) ≡ true) → Walk r (f a) d (f (a + d))
+walk-along {r} f a zero steps = subst (λ (k : ℕ). Walk r (f a) zero (f k)) {x = a} {y = a + 0} (omega arith) stay
+walk-along {r} f a (suc d) steps =
+    subst (λ (k : ℕ). Walk r (f a) (suc d) (f k)) {x = suc (a + d)} {y = a + suc d} (omega arith)
+    (go (walk-along f a d (λ k p q. steps k p (omega arith))) (steps (a + d) (omega arith) (omega arith)))
 
 pub steps-walk : {r : Rel} {x y : ℕ} → Steps r x y → (n : ℕ) × Walk r x (suc n) y
 steps-walk (one h) = (zero, go stay h)

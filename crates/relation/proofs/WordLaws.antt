@@ -1,7 +1,7 @@
 -- Laws of a row as one number: its bits are the row's, and its lowest set bit is the smallest member.
 use mathlib.Core.Path.{_≡_, refl, sym, ap, ap₂, subst, _∙_, fun-ext}
 use mathlib.Core.List.{List, [], _∷_}
-use mathlib.Core.Bool.{Bool, true, false, _||_}
+use mathlib.Core.Bool.{Bool, true, false, _&&_, _||_, or-false}
 use Prim.Native.Nat.{ℕ, zero, suc, _+_, _-_, _*_, _/_, _%_, _^_, _<_, _≤_}
 use native.Mathlib.Nat.{zero-div, mul-assoc, div-one}
 use native.Mathlib.Omega.{arith}
@@ -12,12 +12,13 @@ use lib.Arith.{lt-one}
 use lib.Pow.{pow-add, shr-lt, shl-shr, shr-shr, shl-exact, high, ones-lt, ones-split}
 use lib.Bits.{bitAnd, bitOr, and-mask, or-shifted, shifted-even}
 use lib.Count.{ones, ones-step, ones-le, trailingZeros, under, trailing-le}
-use lib.ListN.{length, getD, List·getD-eq-default}
-use Rattle.relation.specs.Rel.{Set, single, union, difference, least, count, Next}
+use lib.ListN.{length, getD, replicate, getD-replicate, List·getD-eq-default}
+use Rattle.relation.specs.Rel.{Set, single, union, intersection, difference, least, count, Next}
 use Rattle.relation.specs.Bits.{on, bit}
 use Rattle.relation.specs.Ring as ring
-use Rattle.relation.proofs.ByteLaws.{on-or, on-but, bitBut, but, on-zero, bit-in, bit-out}
-use Rattle.relation.proofs.SetLaws.{or-false, Least, least-is}
+use Rattle.relation.proofs.ByteLaws.{digits, Bitwise, on-or, on-and, on-but, bitBut, but, on-zero, bit-in, bit-out}
+use Rattle.relation.proofs.SetLaws.{Least, least-is}
+use Rattle.relation.proofs.Counting.{count-add}
 
 -- Below k, w times 2 ^ k has no bit; from k on it has those of w.
 on-below : (w k j : ℕ) → j < k → on (w * 2 ^ k) j ≡ false
@@ -88,56 +89,51 @@ summed (a ∷ b ∷ c ∷ d ∷ e ∷ f ∷ []) l = absurd (omega (arith, l))
 summed (a ∷ b ∷ c ∷ d ∷ e ∷ f ∷ g ∷ []) l = absurd (omega (arith, l))
 summed (a ∷ b ∷ c ∷ d ∷ e ∷ f ∷ g ∷ h ∷ i ∷ row) l = absurd (omega (arith, l))
 
-pub bit-word : (row : List ℕ) → length row ≡ 8 → ((k : ℕ) → getD row k 0 < 256)
-    → bit row ≡ on (getD row 0 0 + 256 * getD row 1 0 + 65536 * getD row 2 0 + 16777216 * getD row 3 0 + 4294967296 * getD row 4 0
-    + 1099511627776 * getD row 5 0 + 281474976710656 * getD row 6 0 + 72057594037927936 * getD row 7 0)
-bit-word row l h =
+bit-of-word : (row : List ℕ) → length row ≡ 8 → ((k : ℕ) → getD row k 0 < 256) → bit row ≡ on (word row)
+bit-of-word row l h =
     fun-ext
     (λ j. elim (decLt j 64) [
       | yes p ↦ bit-in row j p ∙ sym (on-word row h j)
       | no p ↦ bit-out row j (omega (arith, p)) ∙ sym (on-zero (j % 8))
           ∙ ap (λ (n : ℕ). on n (j % 8)) (sym (List·getD-eq-default row 0 (omega (arith, l, p)))) ∙ sym (on-word row h j)
     ])
-    ∙ ap on (sym (summed row l))
 
--- A row of bytes.
-data Small : List ℕ → Type 0 where
-  none : Small []
-  more : {b : ℕ} {row : List ℕ} → b < 256 → Small row → Small (b ∷ row)
+pub bit-word : (row : List ℕ) → length row ≡ 8 → ((k : ℕ) → getD row k 0 < 256)
+    → bit row ≡ on (getD row 0 0 + 256 * getD row 1 0 + 65536 * getD row 2 0 + 16777216 * getD row 3 0 + 4294967296 * getD row 4 0
+    + 1099511627776 * getD row 5 0 + 281474976710656 * getD row 6 0 + 72057594037927936 * getD row 7 0)
+bit-word row l h = bit-of-word row l h ∙ ap on (sym (summed row l))
 
-small-at : (row : List ℕ) → Small row → (k : ℕ) → getD row k 0 < 256
-small-at [] none k = omega arith
-small-at (b ∷ row) (more h g) zero = h
-small-at (b ∷ row) (more h g) (suc k) = small-at row g k
+-- The lowest n bytes of a number, the lowest first.
+bytesOf : ℕ → ℕ → List ℕ
+bytesOf zero w = []
+bytesOf (suc n) w = w % 256 ∷ bytesOf n (w / 256)
 
--- The bytes of a number, the lowest first, as the code takes them apart.
+bytesOf-small : (n w k : ℕ) → getD (bytesOf n w) k 0 < 256
+unfolding bytesOf
+bytesOf-small zero w k = omega arith
+bytesOf-small (suc n) w zero = omega arith
+bytesOf-small (suc n) w (suc k) = bytesOf-small n (w / 256) k
+
+word-bytesOf : (n w : ℕ) → w < 2 ^ (8 * n) → word (bytesOf n w) ≡ w
+unfolding word bytesOf
+word-bytesOf zero w h = sym (lt-one h)
+word-bytesOf (suc n) w h =
+    let rest = word-bytesOf n (w / 256) (shr-lt (8 * n) 8 (subst (λ (m : ℕ). w < 2 ^ m) {x = 8 * suc n} {y = 8 * n + 8} (omega arith) h)) in
+    omega (arith, rest)
+
+-- The bytes of a number, as the code takes them apart.
 pub bytes-bit : (w : ℕ) → w < 18446744073709551616
     → bit (w % 256 ∷ w / 256 % 256 ∷ w / 65536 % 256 ∷ w / 16777216 % 256 ∷ w / 4294967296 % 256 ∷ w / 1099511627776 % 256
     ∷ w / 281474976710656 % 256 ∷ w / 72057594037927936 % 256 ∷ []) ≡ on w
+unfolding bytesOf
 bytes-bit w h =
-    let row : List ℕ = w % 256 ∷ w / 256 % 256 ∷ w / 65536 % 256 ∷ w / 16777216 % 256 ∷ w / 4294967296 % 256 ∷ w / 1099511627776 % 256
-    ∷ w / 281474976710656 % 256 ∷ w / 72057594037927936 % 256 ∷ [] in
-    let all : Small row = more (low w) (more (low (w / 256)) (more (low (w / 65536)) (more (low (w / 16777216)) (more (low (w / 4294967296))
-    (more (low (w / 1099511627776)) (more (low (w / 281474976710656)) (more (low (w / 72057594037927936)) none))))))) in
-    bit-word row refl (small-at row all)
-    ∙ ap on
-    (joined w (w / 256) (w / 65536) (w / 16777216) (w / 4294967296) (w / 1099511627776) (w / 281474976710656) (w / 72057594037927936)
-    (omega arith) (omega arith) (omega arith) (omega arith) (omega arith) (omega arith) (omega arith) (omega (arith, h)))
-  where
-    low : (x : ℕ) → x % 256 < 256
-    low x = omega arith
-
-    joined : (a b c d e f g h : ℕ) → a / 256 ≡ b → b / 256 ≡ c → c / 256 ≡ d → d / 256 ≡ e → e / 256 ≡ f → f / 256 ≡ g → g / 256 ≡ h → h / 256 ≡ 0
-        → a % 256 + 256 * (b % 256) + 65536 * (c % 256) + 16777216 * (d % 256) + 4294967296 * (e % 256) + 1099511627776 * (f % 256)
-        + 281474976710656 * (g % 256) + 72057594037927936 * (h % 256) ≡ a
-    joined a b c d e f g h p q r s t u v w =
-        sums a b c d e f g h (a % 256) (b % 256) (c % 256) (d % 256) (e % 256) (f % 256) (g % 256) (h % 256)
-        (omega (arith, p)) (omega (arith, q)) (omega (arith, r)) (omega (arith, s)) (omega (arith, t)) (omega (arith, u)) (omega (arith, v)) (omega (arith, w))
-      where
-        sums : (a b c d e f g h i j k l m n o x : ℕ) → a ≡ i + 256 * b → b ≡ j + 256 * c → c ≡ k + 256 * d → d ≡ l + 256 * e → e ≡ m + 256 * f
-            → f ≡ n + 256 * g → g ≡ o + 256 * h → h ≡ x
-            → i + 256 * j + 65536 * k + 16777216 * l + 4294967296 * m + 1099511627776 * n + 281474976710656 * o + 72057594037927936 * x ≡ a
-        sums a b c d e f g h i j k l m n o x p q r s t u v w = omega (arith, p, q, r, s, t, u, v, w)
+    let second : w / 256 / 256 ≡ w / 65536 = omega arith in
+    let third : w / 65536 / 256 ≡ w / 16777216 = omega arith in
+    let fourth : w / 16777216 / 256 ≡ w / 4294967296 = omega arith in
+    let fifth : w / 4294967296 / 256 ≡ w / 1099511627776 = omega arith in
+    let sixth : w / 1099511627776 / 256 ≡ w / 281474976710656 = omega arith in
+    let seventh : w / 281474976710656 / 256 ≡ w / 72057594037927936 = omega arith in
+    rw (← seventh, ← sixth, ← fifth, ← fourth, ← third, ← second) (bit-of-word (bytesOf 8 w) refl (bytesOf-small 8 w) ∙ ap on (word-bytesOf 8 w h))
 
 -- 1u64 << k
 abbrev pub flag : ℕ → ℕ
@@ -167,19 +163,29 @@ on-flag k j h =
           | no d ↦ ne-eqb 0 (j - k) (λ e. d (omega (arith, e, l))) ∙ sym (ne-eqb k j d)
         ]
 
--- The bits of two numbers or-ed are the union of their sets.
-pub on-union : (s t : Set) (v w : ℕ) → s ≡ on v → t ≡ on w → on (bitOr v w) ≡ union s t
+-- Of two numbers with the bits of s and of t, f makes one with those of op s t.
+abbrev OnBoth : (ℕ → ℕ → ℕ) → (Set → Set → Set) → Type 0
+OnBoth f op = (s t : Set) (v w : ℕ) → s ≡ on v → t ≡ on w → on (f v w) ≡ op s t
+
+on-both : (f : ℕ → ℕ → ℕ) (b : Bool → Bool → Bool) → Bitwise f b → OnBoth f (λ s t j. b (s j) (t j))
+on-both f b each s t v w p q = fun-ext (λ j. each v w j ∙ sym (ap₂ (λ (g h : Set). b (g j) (h j)) p q))
+
+pub on-union : OnBoth bitOr union
 unfolding union
-on-union s t v w p q = fun-ext (λ i. on-or v w i ∙ sym (ap₂ (λ (f g : Set). f i || g i) p q))
+on-union = on-both bitOr _||_ on-or
 
--- A member more, and a member less, by a bit of the row's number.
-pub on-with : (s : Set) (w j : ℕ) → s ≡ on w → j < 64 → on (bitOr w (flag j)) ≡ union s (single j)
+pub on-intersection : OnBoth bitAnd intersection
+unfolding intersection
+on-intersection = on-both bitAnd _&&_ on-and
+
+pub on-difference : OnBoth bitBut difference
+unfolding difference
+on-difference = on-both bitBut but on-but
+
+-- 1u64 << j has the bit of j alone.
+pub on-single : (j : ℕ) → j < 64 → single j ≡ on (flag j)
 unfolding single
-on-with s w j e h = on-union s (single j) w (flag j) e (sym (fun-ext (λ i. on-flag j i h)))
-
-pub on-without : (s : Set) (w j : ℕ) → s ≡ on w → j < 64 → on (bitBut w (flag j)) ≡ difference s (single j)
-unfolding difference single
-on-without s w j e h = fun-ext (λ i. on-but w (flag j) i ∙ ap₂ but (ap (λ (f : Set). f i) (sym e)) (on-flag j i h))
+on-single j h = fun-ext (λ i. sym (on-flag j i h))
 
 -- (1u64 << n) - 1 has the bits below n.
 on-ones : (n j : ℕ) → on (2 ^ n - 1) j ≡ ltb j n
@@ -196,6 +202,17 @@ on-ones n j =
     odd d =
         let e : 2 ^ suc d - 1 ≡ (2 ^ d - 1) * 2 ^ 1 + (2 ^ 1 - 1) = ap (λ (m : ℕ). 2 ^ m - 1) {x = suc d} {y = d + 1} (omega arith) ∙ ones-split d 1 in
         eq-eqb ((2 ^ suc d - 1) % 2) 1 (omega (arith, e))
+
+-- Eight bytes of 255 have every bit.
+pub bit-all : bit (replicate 8 255) ≡ ring.under 64
+unfolding ring.under
+bit-all =
+    fun-ext
+    (λ j. elim (decLt j 64) [
+      | yes h ↦ bit-in (replicate 8 255) j h ∙ ap (λ (x : ℕ). on x (j % 8)) (getD-replicate 8 (j / 8) 255 0 (omega arith)) ∙ on-ones 8 (j % 8)
+          ∙ lt-ltb (j % 8) 8 (omega arith) ∙ sym (lt-ltb j 64 h)
+      | no h ↦ bit-out (replicate 8 255) j (omega (arith, h)) ∙ sym (le-ltb j 64 (omega (arith, h)))
+    ])
 
 pub flag-some : (n : ℕ) → n < 64 → 1 ≤ flag n
 flag-some n h = let e : flag n ≡ 1 * 2 ^ n = flag-exact n h in omega (arith, e, ones-lt n)
@@ -267,25 +284,6 @@ unfolding on
 on-has w j = ap (λ (n : ℕ). eqb n 1) (and-mask (w / 2 ^ j) 1)
 
 -- The set bits of a number are as many as the members of the set of its bits.
-digit : Bool → ℕ
-digit true = 1
-digit false = 0
-
-count-first : (n : ℕ) (s : Set) → count (suc n) s ≡ digit (s 0) + count n (λ j. s (suc j))
-unfolding count digit
-count-first zero s = go (s 0)
-  where
-    go : (b : Bool) → elim b [ true ↦ suc zero | false ↦ zero ] ≡ digit b + 0
-    go true = refl
-    go false = refl
-count-first (suc n) s = go (s (suc n)) (count-first n s)
-  where
-    go : (b : Bool) → count (suc n) s ≡ digit (s 0) + count n (λ j. s (suc j))
-        → elim b [ true ↦ suc (count (suc n) s) | false ↦ count (suc n) s ]
-        ≡ digit (s 0) + elim b [ true ↦ suc (count n (λ j. s (suc j))) | false ↦ count n (λ j. s (suc j)) ]
-    go true e = omega (arith, e)
-    go false e = e
-
 ones-none : ones 0 ≡ 0
 unfolding ones
 ones-none = refl
@@ -294,14 +292,15 @@ pub ones-few : (w : ℕ) → w < 2 ^ 64 → ones w ≤ 64
 ones-few w h = ones-le 64 w h
 
 pub ones-count : (k w : ℕ) → w < 2 ^ k → ones w ≡ count k (on w)
-unfolding count digit
+unfolding count
 ones-count zero w h = ap ones (lt-one h) ∙ ones-none
 ones-count (suc k) w h =
     ones-step w
-    ∙ ap₂ _+_ (low (w % 2) (omega arith)) (ones-count k (w / 2) (shr-lt k 1 (subst (λ (n : ℕ). w < 2 ^ n) (omega arith) h)))
-    ∙ sym (count-first k (on w) ∙ ap₂ _+_ (ap digit (on-lowest w)) (ap (count k) (on-half w)))
+    ∙ ap₂ _+_ (low (w % 2) (omega arith) (on w 0) (on-lowest w)) (ones-count k (w / 2) (shr-lt k 1 (subst (λ (n : ℕ). w < 2 ^ n) (omega arith) h)) ∙ ap (count k) (sym half))
+    ∙ sym (ap (λ (n : ℕ). count n (on w)) {x = suc k} {y = 1 + k} (omega arith) ∙ count-add 1 k (on w))
   where
-    low : (d : ℕ) → d < 2 → d ≡ digit (eqb d 1)
-    low zero g = refl
-    low (suc zero) g = refl
-    low (suc (suc d)) g = absurd (omega arith)
+    half : (λ (j : ℕ). on w (1 + j)) ≡ on (w / 2)
+    half = fun-ext (λ j. ap (on w) {x = 1 + j} {y = suc j} (omega arith)) ∙ on-half w
+
+    low : (d : ℕ) → d < 2 → (b : Bool) → b ≡ eqb d 1 → d ≡ elim b [ true ↦ suc zero | false ↦ zero ]
+    low = digits (λ d. (b : Bool) → b ≡ eqb d 1 → d ≡ elim b [ true ↦ suc zero | false ↦ zero ]) (λ b e. rw e) (λ b e. rw e)

@@ -117,26 +117,15 @@ pub fn or(a: Row, b: Row) -> Row
 pub fn and(a: Row, b: Row) -> Row
     ensures { λ r. ⌜ bit r ≡ intersection (bit a) (bit b) ⌝ }
 {
-    let mut r = a;
-    let mut k: usize = 0;
-    while k < 8 {
-        r[k] = a[k] & b[k];
-        k += 1;
-    }
-    r
+    bytes(word(a) & word(b))
 }
 
 // Difference.
 pub fn minus(a: Row, b: Row) -> Row
     ensures { λ r. ⌜ bit r ≡ difference (bit a) (bit b) ⌝ }
 {
-    let mut r = a;
-    let mut k: usize = 0;
-    while k < 8 {
-        r[k] = a[k] ^ (a[k] & b[k]);
-        k += 1;
-    }
-    r
+    let w = word(a);
+    bytes(w ^ (w & word(b)))
 }
 
 // The smallest member, or 64 where there is none.

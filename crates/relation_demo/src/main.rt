@@ -6,10 +6,12 @@ use relation::grid::Grid;
 use relation::row::Row;
 ghost use Prim.Native.Nat.{_≤_, _<_};
 
-// The first len events, each behind a space, and a line feed.
-fn show(at: [u8; 64], len: usize)
-    requires { ⌜ len ≤ 64 ⌝ }
+// The events found, each behind a space, and a line feed.
+fn show(found: Sequence)
+    requires { ⌜ found .len ≤ 64 ⌝ }
 {
+    let at = found.at;
+    let len = found.len;
     let mut k: usize = 0;
     while k < len {
         io::write_all(STDOUT_FILENO, b" ");
@@ -21,18 +23,12 @@ fn show(at: [u8; 64], len: usize)
 
 fn show_ring(g: Grid, e: Grid) {
     io::write_all(STDOUT_FILENO, b"ring");
-    let found = relation::ring::ring(g, e);
-    let at = found.at;
-    let len = found.len;
-    show(at, len);
+    show(relation::ring::ring(g, e));
 }
 
 fn show_order(g: Grid, s: Row) {
     io::write_all(STDOUT_FILENO, b"order");
-    let found = relation::order::order(g, s);
-    let at = found.at;
-    let len = found.len;
-    show(at, len);
+    show(relation::order::order(g, s));
 }
 
 fn main() {

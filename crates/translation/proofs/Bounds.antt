@@ -1,23 +1,24 @@
 -- The translation of a source file that loads has at most 48 events and at most 232 links.
-use mathlib.Core.Path.{_≡_, refl, sym, ap, subst, _∙_}
+use mathlib.Core.Path.{_≡_, refl, sym, ap, _∙_}
 use mathlib.Core.Bool.{true, _&&_}
-use mathlib.Core.List.{List, []}
+use mathlib.Core.List.{List, [], _∷_, List·Memᴰ, List·Memᴰ·head, List·Memᴰ·tail}
+use mathlib.Core.Logic.{_⊎_, inl, inr}
 use Prim.Native.Nat.{ℕ, zero, suc, _+_, _-_, _*_, _/_, _%_, _<_, _≤_}
 use native.Mathlib.Omega.{arith}
 use borrow.Author.Tests.{eqb-true}
 use lib.Dec.{eqb}
-use Rattle.relation.specs.Rel.{Set, some, count}
-use Rattle.relation.proofs.Meaning.{Mem, here, there, and-left, and-right, some-sound}
+use Rattle.relation.specs.Rel.{Set, count}
+use Rattle.relation.proofs.Meaning.{some-sound}
 use Rattle.models.specs.Recording.{flagged}
 use Rattle.layout.specs.Layout.{events, links, linkByte}
-use Rattle.layout.specs.Chains.{nextEvent, nextLink, firstLink, linksInto, met, fresh, onceEach, allMet, among}
-use Rattle.layout.specs.Decode.{isRecorded, decode}
+use Rattle.layout.specs.Chains.{nextEvent, nextLink, firstLink, linksInto, met, fresh, onceEach, among}
+use Rattle.layout.specs.Decode.{decode}
 use Rattle.translation.specs.Contents.{contents}
 use Rattle.translation.specs.Translate.{exclusive, strong, newEvents, after, controlled, translated}
 use Rattle.translation.specs.Encode.{isLink, linksUpTo}
 use Rattle.translation.specs.Translation.{chip}
 use Rattle.translation.specs.Parts.{Source}
-use Rattle.relation.proofs.Truth.{is-true, holds}
+use Rattle.relation.proofs.Truth.{is-true, holds, and-left, and-right}
 use Rattle.recording.proofs.Accepted.{links-sound}
 use Rattle.layout.proofs.ChainFacts.{among-here, among-there, fresh-within, follow-positive, met-at, one-chain}
 use Rattle.relation.proofs.Counting.{count-inject, count-double}
@@ -25,19 +26,16 @@ use Rattle.translation.proofs.TranslateLaws.{Flagged, flagged-is, Linke
 use Rattle.translation.proofs.EncodedLinks.{LinksFit}
 use Rattle.translation.proofs.SourceFacts.{limits, loads, says, link-source, link-target, flagged-decoded}
 
-pub mem-among : (x : ℕ) (l : List ℕ) → Mem x l → among x l ≡ true
-mem-among x _ (here {es = l}) = among-here x x l refl
-mem-among x _ (there {e = y} {es = l} m) = among-there x y l (mem-among x l m)
+pub mem-among : (x : ℕ) (l : List ℕ) → List·Memᴰ x l → among x l ≡ true
+mem-among x (y ∷ l) (List·Memᴰ·head e) = among-here x y l e
+mem-among x (y ∷ l) (List·Memᴰ·tail m) = among-there x y l (mem-among x l m)
 
 -- Links with the same digits are one.
 from-digits : (k : ℕ) → k ≡ 512 * (k / 512) + 64 * (k / 64 % 8) + k % 64
 from-digits k = omega arith
 
 same-digits : (j k : ℕ) → j / 512 ≡ k / 512 → j / 64 % 8 ≡ k / 64 % 8 → j % 64 ≡ k % 64 → j ≡ k
-same-digits j k p q r =
-    from-digits j
-    ∙ ap (λ (x : ℕ). 512 * x + 64 * (j / 64 % 8) + j % 64) p ∙ ap (λ (x : ℕ). 512 * (k / 512) + 64 * x + j % 64) q ∙ ap (λ (x : ℕ). 512 * (k / 512) + 64 * (k / 64 % 8) + x) r
-    ∙ sym (from-digits k)
+same-digits j k p q r = cc (from-digits j, from-digits k)
 
 module _ (f : List ℕ) (s : Source f) where
   -- A strong write directly follows an exclusive read.
@@ -98,16 +96,14 @@ module _ (f : List ℕ) (s : Source f) where
 
   links-fresh : fresh (links f) [] (met (links f) (nextLink f) (firstLink f) (events f)) ≡ true
   unfolding onceEach
-  links-fresh =
-      let l = met (links f) (nextLink f) (firstLink f) (events f) in
-      and-left (fresh (links f) [] l) (allMet (links f) l) (links-sound f (s .loads))
+  links-fresh = (let once = links-sound f (s .loads) in search and-left)
 
   pub recorded-link : (t a b : ℕ) → decode f .link t a b ≡ true → Recorded t a b
   unfolding decode
   recorded-link t a b e =
       let is : Set = λ m. eqb (linkByte f m 1) t && eqb (linkByte f m 2) a in
       let b-in = link-target f s t a b e in
-      let w = some-sound (linksInto f b) is (and-right (isRecorded f b) (some (linksInto f b) is) e) in
+      let w = some-sound (linksInto f b) is (search and-right) in
       let m = w .0 in
       let on = mem-among m (linksInto f b) (w .1) in
       record {
@@ -116,8 +112,8 @@ module _ (f : List ℕ) (s : Source f) where
         high = fresh-within (links f) [] (met (links f) (nextLink f) (firstLink f) (events f)) m links-fresh
             (met-at (links f) (nextLink f) (firstLink f) (events f) (b - 1) m (omega (arith, b-in)) on);
         chained = on;
-        type = eqb-true (linkByte f m 1) t (and-left (eqb (linkByte f m 1) t) (eqb (linkByte f m 2) a) (w .2));
-        source = eqb-true (linkByte f m 2) a (and-right (eqb (linkByte f m 1) t) (eqb (linkByte f m 2) a) (w .2));
+        type = search (and-left, eqb-true);
+        source = search (and-right, eqb-true);
       }
 
   -- A record stands on the chain of one event.
@@ -149,53 +145,49 @@ module _ (f : List ℕ) (s : Source f) where
 
   -- Each link of the translation has a link record of the source to itself, or an exclusive read.
   data Origin (k x : ℕ) : Type 0 where
-    same-record : among (suc x) (linksInto f (k / 512)) ≡ true → (1 ≤ k / 512) × (k / 512 ≤ events f) → x < links f → linkByte f (suc x) 1 ≡ k / 64 % 8
-        → k / 64 % 8 ≤ 6 → linkByte f (suc x) 2 ≡ k % 64 → Origin k x
-    casdep-record : (e : ℕ) → among (suc x) (linksInto f e) ≡ true → (1 ≤ e) × (e ≤ events f) → x < links f → linkByte f (suc x) 1 ≡ 7
-        → linkByte f (suc x) 2 ≡ k % 64 → k / 64 % 8 ≡ 6 → after (contents f) e ≡ k / 512 → Origin k x
+    from-record : (t e : ℕ) → among (suc x) (linksInto f e) ≡ true → (1 ≤ e) × (e ≤ events f) → x < links f
+        → linkByte f (suc x) 1 ≡ t → linkByte f (suc x) 2 ≡ k % 64
+        → ((t ≡ k / 64 % 8) × (t ≤ 6) × (e ≡ k / 512)) ⊎ ((t ≡ 7) × (k / 64 % 8 ≡ 6) × (after (contents f) e ≡ k / 512)) → Origin k x
     read : x ≡ links f + (k % 64 - 1) → 1 ≤ k % 64 → k / 64 % 8 ≡ 6 → controlled (contents f) (k % 64) ≡ k / 512 → Origin k x
+
+  of-record : (k t e : ℕ) → decode f .link t (k % 64) e ≡ true
+      → ((t ≡ k / 64 % 8) × (t ≤ 6) × (e ≡ k / 512)) ⊎ ((t ≡ 7) × (k / 64 % 8 ≡ 6) × (after (contents f) e ≡ k / 512)) → (x : ℕ) × (x < 232) × Origin k x
+  of-record k t e l goes =
+      let r = recorded-link t (k % 64) e l in
+      let m : suc (r .number - 1) ≡ r .number = omega (arith, r .low) in (
+        r .number - 1,
+        omega (arith, r .low, r .high, limits f s .2),
+        from-record t e (rw m (r .chained)) (link-target f s t (k % 64) e l) (omega (arith, r .low, r .high)) (rw m (r .type)) (rw m (r .source)) goes,
+      )
 
   origin : (k : ℕ) → isLink (chip f) k ≡ true → (x : ℕ) × (x < 232) × Origin k x
   unfolding isLink translated contents
   origin k h = go (new-is (contents f) (k / 64 % 8) (k % 64) (k / 512) h .from)
     where
       go : Linked (contents f) (k / 64 % 8) (k % 64) (k / 512) → (x : ℕ) × (x < 232) × Origin k x
-      go (stays p q l) =
-          let r = recorded-link (k / 64 % 8) (k % 64) (k / 512) l in
-          let m : suc (r .number - 1) ≡ r .number = omega (arith, r .low) in
-          let x = r .number - 1 in (
-            x,
-            omega (arith, r .low, r .high, limits f s .2),
-            same-record (subst (λ (n : ℕ). among n (linksInto f (k / 512)) ≡ true) (sym m) (r .chained)) (link-target f s (k / 64 % 8) (k % 64) (k / 512) l)
-                (omega (arith, r .low, r .high)) (ap (λ (n : ℕ). linkByte f n 1) m ∙ r .type) q (ap (λ (n : ℕ). linkByte f n 2) m ∙ r .source),
-          )
+      go (stays p q l) = of-record k (k / 64 % 8) (k / 512) l (inl (refl, q, refl))
       go (exclusively p x q) =
           let w = flagged-is (contents f) 1 (k % 64) x in
           (links f + (k % 64 - 1), omega (arith, w .low, w .high, limits f s .0, limits f s .2), read refl (w .low) p q)
-      go (casdep e p l q) =
-          let r = recorded-link 7 (k % 64) e l in
-          let m : suc (r .number - 1) ≡ r .number = omega (arith, r .low) in
-          let x = r .number - 1 in (
-            x,
-            omega (arith, r .low, r .high, limits f s .2),
-            casdep-record e (subst (λ (n : ℕ). among n (linksInto f e) ≡ true) (sym m) (r .chained)) (link-target f s 7 (k % 64) e l)
-                (omega (arith, r .low, r .high)) (ap (λ (n : ℕ). linkByte f n 1) m ∙ r .type) (ap (λ (n : ℕ). linkByte f n 2) m ∙ r .source) p q,
-          )
+      go (casdep e p l q) = of-record k 7 e l (inr (refl, p, q))
 
   origin-once : (j k x : ℕ) → Origin j x → Origin k x → j ≡ k
-  origin-once j k x (same-record p h _ t _ a) (same-record p′ h′ _ t′ _ a′) =
-      same-digits j k (one-target (suc x) (j / 512) (k / 512) h h′ p p′) (sym t ∙ t′) (sym a ∙ a′)
-  origin-once j k x (casdep-record e p h _ t a u q) (casdep-record e′ p′ h′ _ t′ a′ u′ q′) =
-      same-digits j k (sym q ∙ ap (after (contents f)) (one-target (suc x) e e′ h h′ p p′) ∙ q′) (u ∙ sym u′) (sym a ∙ a′)
+  origin-once j k x (from-record t e p h _ b a v) (from-record t′ e′ p′ h′ _ b′ a′ v′) = go v v′
+    where
+      same : e ≡ e′
+      same = one-target (suc x) e e′ h h′ p p′
+
+      go : ((t ≡ j / 64 % 8) × (t ≤ 6) × (e ≡ j / 512)) ⊎ ((t ≡ 7) × (j / 64 % 8 ≡ 6) × (after (contents f) e ≡ j / 512))
+          → ((t′ ≡ k / 64 % 8) × (t′ ≤ 6) × (e′ ≡ k / 512)) ⊎ ((t′ ≡ 7) × (k / 64 % 8 ≡ 6) × (after (contents f) e′ ≡ k / 512)) → j ≡ k
+      go (inl u) (inl u′) = same-digits j k (cc same) (cc) (cc)
+      go (inr u) (inr u′) = same-digits j k (cc same) (cc) (cc)
+      go (inl u) (inr u′) = absurd (omega arith)
+      go (inr u) (inl u′) = absurd (omega arith)
   origin-once j k x (read p h u q) (read p′ h′ u′ q′) =
       let a : j % 64 ≡ k % 64 = omega (arith, p, p′, h, h′) in
-      same-digits j k (sym q ∙ ap (controlled (contents f)) a ∙ q′) (u ∙ sym u′) a
-  origin-once j k x (same-record _ _ _ t l _) (casdep-record _ _ _ _ t′ _ _ _) = absurd (omega (arith, sym t ∙ t′))
-  origin-once j k x (casdep-record _ _ _ _ t′ _ _ _) (same-record _ _ _ t l _) = absurd (omega (arith, sym t ∙ t′))
-  origin-once j k x (same-record _ _ g _ _ _) (read p _ _ _) = absurd (omega arith)
-  origin-once j k x (read p _ _ _) (same-record _ _ g _ _ _) = absurd (omega arith)
-  origin-once j k x (casdep-record _ _ _ g _ _ _ _) (read p _ _ _) = absurd (omega arith)
-  origin-once j k x (read p _ _ _) (casdep-record _ _ _ g _ _ _ _) = absurd (omega arith)
+      same-digits j k (cc) (cc) a
+  origin-once j k x (from-record _ _ _ _ g _ _ _) (read p _ _ _) = absurd (omega arith)
+  origin-once j k x (read p _ _ _) (from-record _ _ _ _ g _ _ _) = absurd (omega arith)
 
   pub most-links : (e : ℕ) → linksUpTo (chip f) e ≤ 232
   most-links e = count-inject (512 * suc e) 232 (isLink (chip f)) Origin (λ k h g. origin k g) origin-once

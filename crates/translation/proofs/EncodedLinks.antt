@@ -1,7 +1,7 @@
 -- The links of an encoded file: each event's chain is a run of numbers, every link stands on one chain, and the links that
 -- the file holds are those that were written.
 use mathlib.Core.Path.{_≡_, refl, sym, ap, subst, _∙_}
-use mathlib.Core.Bool.{Bool, true, false, _&&_}
+use mathlib.Core.Bool.{true, _&&_}
 use mathlib.Core.List.{List, _++_}
 use Prim.Native.Nat.{ℕ, zero, suc, _+_, _-_, _*_, _/_, _%_, _<_, _≤_}
 use native.Mathlib.Omega.{arith}
@@ -11,11 +11,12 @@ use borrow.Author.Tests.{eqb-true, eq-eqb}
 use lib.Dec.{eqb}
 use lib.ListN.{getD}
 use Rattle.relation.specs.Rel.{Set, count, some}
-use Rattle.relation.proofs.Meaning.{and-both, and-left, and-right}
+use Rattle.relation.proofs.Truth.{and-both, and-left, and-right}
 use Rattle.layout.specs.Layout.{events, links, linkStart, linkByte}
 use Rattle.layout.specs.Chains.{nextOf, startOf, nextLink, firstLink, linksInto, chain, follow, met, linksSound, onceEach}
 use Rattle.layout.specs.Decode.{isRecorded, decode}
 use Rattle.layout.proofs.FieldLaws.{recorded-bounds, recorded-is}
+use Rattle.relation.proofs.Truth.{is-false, same-test}
 use Rattle.translation.specs.Contents.{Contents}
 use Rattle.translation.specs.Encode.{chained, isLink, linksBefore, linksUpTo, eventRecord, linkRecord, encode}
 use Rattle.relation.proofs.Counting.{select, count-mono, count-lt, count-none}
@@ -43,11 +44,7 @@ link-number c t a b h g =
 module _ (c : Contents) (fit : LinksFit c) where
   pub none-into-zero : linksBefore c 512 ≡ 0
   unfolding isLink count
-  none-into-zero = count-none 0 512 (isLink c) (omega arith) (λ k h g. none k g (isLink c k) refl)
-    where
-      none : (k : ℕ) → k < 512 → (b : Bool) → isLink c k ≡ b → isLink c k ≡ false
-      none k g true e = absurd (let h = fit .target-low _ _ _ e in omega arith)
-      none k g false e = e
+  none-into-zero = count-none 0 512 (isLink c) (omega arith) (λ k h g. is-false (isLink c k) (λ e. omega (arith, fit .target-low _ _ _ e)))
 
   -- The link numbered m.
   pub record Numbered (m : ℕ) : Type 0 where
@@ -176,25 +173,16 @@ module _ (c : Contents) (fit : LinksFit c) where
       let w = chained-at t a b e in
       and-both (isRecorded (encode c) b) (some (linksInto (encode c) b) (holds t a)) (recorded-is (encode c) b h (omega (arith, encode-events c)))
       (ap (λ (l : List ℕ). some l (holds t a)) (links-into b h g)
-      ∙ run-some (linksBefore c (512 * b)) (linksAt b) (holds t a) (w .0) (w .1) (omega (arith, w .2, links-at b))
-      (and-both (eqb (linkByte (encode c) (w .0) 1) t) (eqb (linkByte (encode c) (w .0) 2) a) (eq-eqb _ t (w .3)) (eq-eqb _ a (w .4))))
+      ∙ run-some (linksBefore c (512 * b)) (linksAt b) (holds t a) (w .0) (w .1) (omega (arith, w .2, links-at b)) (search (and-both, eq-eqb)))
 
   written : (t a b : ℕ) → decode (encode c) .link t a b ≡ true → c .link t a b ≡ true
   unfolding decode holds
   written t a b e =
-      let r = recorded-bounds (encode c) b (and-left (isRecorded (encode c) b) (some (linksInto (encode c) b) (holds t a)) e) in
+      let r = recorded-bounds (encode c) b (search and-left) in
       let g : b ≤ c .events = omega (arith, r .1, encode-events c) in
       let w = run-member (linksBefore c (512 * b)) (linksAt b) (holds t a)
-      (ap (λ (l : List ℕ). some l (holds t a)) (sym (links-into b (r .0) g)) ∙ and-right (isRecorded (encode c) b) (some (linksInto (encode c) b) (holds t a)) e) in
-      let type = eqb (linkByte (encode c) (w .0) 1) t in
-      let source = eqb (linkByte (encode c) (w .0) 2) a in
-      on-chain b (w .0) t a g (w .1) (omega (arith, w .2, links-at b)) (eqb-true _ t (and-left type source (w .3))) (eqb-true _ a (and-right type source (w .3)))
+      (ap (λ (l : List ℕ). some l (holds t a)) (sym (links-into b (r .0) g)) ∙ search and-right) in
+      on-chain b (w .0) t a g (w .1) (omega (arith, w .2, links-at b)) (search (and-left, eqb-true)) (search (and-right, eqb-true))
 
   pub encoded-link : (t a b : ℕ) → decode (encode c) .link t a b ≡ c .link t a b
-  encoded-link t a b = go (c .link t a b) refl (decode (encode c) .link t a b) refl
-    where
-      go : (x : Bool) → c .link t a b ≡ x → (y : Bool) → decode (encode c) .link t a b ≡ y → y ≡ x
-      go true p true q = refl
-      go true p false q = sym q ∙ held t a b p
-      go false p true q = sym (written t a b q) ∙ p
-      go false p false q = refl
+  encoded-link t a b = same-test (decode (encode c) .link t a b) (c .link t a b) (written t a b) (held t a b)

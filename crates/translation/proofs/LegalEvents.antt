@@ -8,14 +8,13 @@ use Prim.Native.Nat.{ℕ, zero, suc, _+_, _*_, _<_, _≤_}
 use native.Mathlib.Omega.{arith}
 use native.Mathlib.Decide.{ℕ-discrete, decLe}
 use borrow.Author.Tests.{leb-true, eqb-true}
-use lib.Dec.{eqb, leb, ltb}
-use Rattle.relation.proofs.Meaning.{and-left, and-right, and-both, or-either}
+use lib.Dec.{eqb, ltb}
 use Rattle.layout.specs.Layout.{Side, source, chip, side, locations}
 use Rattle.layout.specs.Decode.{decode}
 use Rattle.recording.specs.Causes.{writeLegal, fenceMode, fenceLegal, legal, eventLegal}
 use Rattle.translation.specs.Contents.{Contents}
 use Rattle.translation.specs.Translate.{strong, newMode, newFlag, translated}
-use Rattle.relation.proofs.Truth.{is-false}
+use Rattle.relation.proofs.Truth.{is-false, and-left, and-right, and-both, or-either}
 use Rattle.translation.proofs.TranslateLaws as law
 use Rattle.translation.proofs.TranslateLaws.{flagged-is}
 use Rattle.translation.proofs.Says.{Says}
@@ -31,32 +30,22 @@ legal-says f c q e h g = rw (q .class e h g, q .mode e h g, q .flag e h g, q .lo
 module _ (L class mode flag location value : ℕ) where
   legal-write : legal source L 2 mode flag location value ≡ true → ((eqb mode 0 || eqb mode 2) && ltb location L ≡ true) × ((flag ≡ 0) ⊎ (flag ≡ 1))
   unfolding legal writeLegal
-  legal-write p =
-      let m = eqb mode 0 || eqb mode 2 in
-      let f = eqb flag 0 || (eqb flag 1 && true) in
-      let w = and-left (m && f) (ltb location L) p in (
-        and-both m (ltb location L) (and-left m f w) (and-right (m && f) (ltb location L) p),
-        elim (or-either (eqb flag 0) (eqb flag 1 && true) (and-right m f w)) [
-          | inl x ↦ inl (eqb-true flag 0 x)
-          | inr x ↦ inr (eqb-true flag 1 (and-left (eqb flag 1) true x))
-        ],
-      )
+  legal-write p = (
+    search (and-both, and-left, and-right),
+    elim (or-either (eqb flag 0) (eqb flag 1 && true) (search (and-left, and-right))) [
+      | inl x ↦ inl (eqb-true flag 0 x)
+      | inr x ↦ inr (search (and-left, eqb-true))
+    ],
+  )
 
   legal-fence : legal source L 3 mode flag location value ≡ true → (1 ≤ mode) × (mode ≤ 4) × (flag ≡ 0) × (eqb location 0 && eqb value 0 ≡ true)
   unfolding legal fenceLegal fenceMode
-  legal-fence p =
-      let m = leb 1 mode && leb mode 4 in
-      let z = eqb location 0 && eqb value 0 in
-      let w = and-left (m && eqb flag 0) z p in
-      let b = and-left m (eqb flag 0) w in
-      (leb-true 1 mode (and-left (leb 1 mode) (leb mode 4) b), leb-true mode 4 (and-right (leb 1 mode) (leb mode 4) b), eqb-true flag 0 (and-right m (eqb flag 0) w), and-right (m && eqb flag 0) z p)
+  legal-fence p = search (and-left, and-right, leb-true, eqb-true)
 
   -- In a chip recording.
   chip-write : (eqb mode 0 || eqb mode 2) && ltb location L ≡ true → legal chip L 2 mode 0 location value ≡ true
   unfolding legal writeLegal
-  chip-write p =
-      let m = eqb mode 0 || eqb mode 2 in
-      and-both (m && true) (ltb location L) (and-both m true (and-left m (ltb location L) p) refl) (and-right m (ltb location L) p)
+  chip-write p = search (and-both, and-left, and-right)
 
   chip-fence : (mode ≡ 5) ⊎ (mode ≡ 6) → flag ≡ 0 → eqb location 0 && eqb value 0 ≡ true → legal chip L 3 mode flag location value ≡ true
   unfolding legal fenceLegal fenceMode

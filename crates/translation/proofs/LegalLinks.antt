@@ -7,17 +7,26 @@ use native.Mathlib.Omega.{arith}
 use borrow.Author.Tests.{eq-eqb, ne-eqb}
 use lib.Dec.{T, eqb}
 use Rattle.relation.specs.Rel.{some, diagonal, nodes}
-use Rattle.relation.proofs.Meaning.{and-left, and-right, and-both, some-sound}
-use Rattle.models.specs.Recording.{Recording, event, ofClass, flagged, access, coStep}
+use Rattle.relation.proofs.Meaning.{some-sound, mem-below}
+use Rattle.models.specs.Recording.{Recording, event, ofClass, coStep}
 use Rattle.models.specs.Steps.{Plus, one, cons}
 use Rattle.models.specs.Graph.{graph, base, Within}
 use Rattle.models.specs.Loads.{Loads}
-use Rattle.models.proofs.Tests.{plus-steps, below-listed}
+use Rattle.models.proofs.Tests.{plus-steps}
 use Rattle.models.proofs.MemberLaws.{recorded-event, class-event, flag-class, access-event, step-intro, linked}
 use Rattle.models.proofs.Agree.{agrees}
 use Rattle.layout.specs.Layout.{Side}
 use Rattle.recording.specs.Causes.{sameLocations, rfLegal, coLegal, rmwLegal, fromRead, dataLegal, addrLegal, ctrlLegal, linkLegal, oneSource}
-use Rattle.relation.proofs.Truth.{is-true, holds, is-false}
+use Rattle.relation.proofs.Truth.{is-true, holds, is-false, and-left, and-right, and-both}
+
+-- One source per read, where any two sources are one.
+pub one-source-by : (r : Recording ℕ) (b : ℕ) → ((a c : ℕ) → r .link 1 a b ≡ true → r .link 1 c b ≡ true → a ≡ c) → oneSource r b ≡ true
+unfolding oneSource
+one-source-by r b once =
+    ap not (is-false (some nodes (λ a. some nodes (λ c. (r .link 1 a b && r .link 1 c b) && not (eqb a c)))) (λ p.
+    let (a, _, q) = some-sound nodes (λ a. some nodes (λ c. (r .link 1 a b && r .link 1 c b) && not (eqb a c))) p in
+    let (c, _, two) = some-sound nodes (λ c. (r .link 1 a b && r .link 1 c b) && not (eqb a c)) q in
+    false≢true (sym (ap not (eq-eqb a c (once a c (search (and-left, and-right)) (search (and-left, and-right))))) ∙ search and-right)))
 
 -- Links have types 1 to 6, and rf joins equal values.
 module _ (r : Recording ℕ) (l : Loads r) (small : (e : ℕ) → T (event r e) → e < 64)
@@ -43,7 +52,7 @@ module _ (r : Recording ℕ) (l : Loads r) (small : (e : ℕ) → T (event r e) 
 
   pub within : Within nodes r
   within = record {
-    listed = λ e h. below-listed 64 e (small e h);
+    listed = λ e h. mem-below 64 e (small e h);
     next-source = λ a b h. recorded-event r a (l .next-source a b h);
     next-target = λ a b h. recorded-event r b (l .next-target a b h);
     link-source = λ t a b h. ends t a b h (types t a b h) .0;
@@ -51,35 +60,24 @@ module _ (r : Recording ℕ) (l : Loads r) (small : (e : ℕ) → T (event r e) 
   }
 
   -- Each link meets its conditions.
-  same-place : (a b : ℕ) → r .location a ≡ r .location b → sameLocations r a b ≡ true
-  unfolding sameLocations
-  same-place a b e = eq-eqb (r .location a) (r .location b) e
-
   from-read : (a b : ℕ) → T (ofClass r 1 a) → graph r .po a b → fromRead r a b ≡ true
   unfolding fromRead
-  from-read a b h p = and-both (ofClass r 1 a) (base nodes r .po a b) (is-true _ h) (is-true _ (agrees nodes r within .po .from a b p))
+  from-read a b h p = (let before = agrees nodes r within .po .from a b p in search (and-both, is-true))
 
   rf-legal : (a b : ℕ) → T (r .link 1 a b) → rfLegal r a b ≡ true
-  unfolding rfLegal
-  rf-legal a b h =
-      let w = l .rf a b h in
-      and-both (ofClass r 2 a && ofClass r 1 b) (sameLocations r a b && eqb (r .value a) (r .value b)) (and-both (ofClass r 2 a) (ofClass r 1 b) (is-true _ (w .0)) (is-true _ (w .1)))
-      (and-both (sameLocations r a b) (eqb (r .value a) (r .value b)) (same-place a b (w .2)) (eq-eqb (r .value a) (r .value b) (values a b h)))
+  unfolding rfLegal sameLocations
+  rf-legal a b h = (let w = l .rf a b h in let same = values a b h in search (and-both, is-true, eq-eqb))
 
   co-legal : (a b : ℕ) → T (r .link 2 a b) → coLegal r a b ≡ true
-  unfolding coLegal
+  unfolding coLegal sameLocations
   co-legal a b h =
       let w = l .co a b h in
-      let other = ne-eqb a b (λ e. l .co-acyclic a (one (step-intro r a a (linked (subst (λ x. T (r .link 2 a x)) (sym e) h))))) in
-      and-both (ofClass r 2 a && ofClass r 2 b) (r .recorded b && (not (eqb a b) && sameLocations r a b)) (and-both (ofClass r 2 a) (ofClass r 2 b) (is-true _ (w .0)) (is-true _ (w .1)))
-      (and-both (r .recorded b) (not (eqb a b) && sameLocations r a b) (is-true _ (w .2)) (and-both (not (eqb a b)) (sameLocations r a b) (ap not other) (same-place a b (w .3))))
+      let other = ap not (ne-eqb a b (λ e. l .co-acyclic a (one (step-intro r a a (linked (subst (λ x. T (r .link 2 a x)) (sym e) h)))))) in
+      search (and-both, is-true, eq-eqb)
 
   rmw-legal : (a b : ℕ) → T (r .link 3 a b) → rmwLegal r a b ≡ true
-  unfolding rmwLegal
-  rmw-legal a b h =
-      let w = l .rmw a b h in
-      and-both (flagged r 1 a && ofClass r 2 b) (r .next a b && sameLocations r a b) (and-both (flagged r 1 a) (ofClass r 2 b) (is-true _ (w .0)) (is-true _ (w .1)))
-      (and-both (r .next a b) (sameLocations r a b) (is-true _ (w .2)) (same-place a b (w .3)))
+  unfolding rmwLegal sameLocations
+  rmw-legal a b h = (let w = l .rmw a b h in search (and-both, is-true, eq-eqb))
 
   legal-by : (s : Side) (t a b : ℕ) → T (r .link t a b) → (1 ≤ t) × (t ≤ 6) → linkLegal r s t a b ≡ true
   unfolding linkLegal dataLegal addrLegal ctrlLegal
@@ -87,8 +85,8 @@ module _ (r : Recording ℕ) (l : Loads r) (small : (e : ℕ) → T (event r e) 
   legal-by s (suc zero) a b h g = rf-legal a b h
   legal-by s (suc (suc zero)) a b h g = co-legal a b h
   legal-by s (suc (suc (suc zero))) a b h g = rmw-legal a b h
-  legal-by s (suc (suc (suc (suc zero)))) a b h g = (let w = l .«data» a b h in and-both (fromRead r a b) (ofClass r 2 b) (from-read a b (w .0) (w .2)) (is-true _ (w .1)))
-  legal-by s (suc (suc (suc (suc (suc zero))))) a b h g = (let w = l .addr a b h in and-both (fromRead r a b) (access r b) (from-read a b (w .0) (w .2)) (is-true _ (w .1)))
+  legal-by s (suc (suc (suc (suc zero)))) a b h g = (let w = l .«data» a b h in search (and-both, from-read, is-true))
+  legal-by s (suc (suc (suc (suc (suc zero))))) a b h g = (let w = l .addr a b h in search (and-both, from-read, is-true))
   legal-by s (suc (suc (suc (suc (suc (suc zero)))))) a b h g = (let w = l .ctrl a b h in from-read a b (w .0) (w .1))
   legal-by s (suc (suc (suc (suc (suc (suc (suc t))))))) a b h g = absurd (omega (arith, g))
 
@@ -97,18 +95,7 @@ module _ (r : Recording ℕ) (l : Loads r) (small : (e : ℕ) → T (event r e) 
 
   -- One source per read.
   pub one-source : (b : ℕ) → oneSource r b ≡ true
-  unfolding oneSource
-  one-source b =
-      ap not (is-false (some nodes (λ a. some nodes (λ c. (r .link 1 a b && r .link 1 c b) && not (eqb a c)))) (λ p.
-      let x = some-sound nodes (λ a. some nodes (λ c. (r .link 1 a b && r .link 1 c b) && not (eqb a c))) p in
-      let y = some-sound nodes (λ c. (r .link 1 (x .0) b && r .link 1 c b) && not (eqb (x .0) c)) (x .2) in
-      two (x .0) (y .0) (y .2)))
-    where
-      two : (a c : ℕ) → (r .link 1 a b && r .link 1 c b) && not (eqb a c) ≡ true → ⊥
-      two a c p =
-          let both = and-left (r .link 1 a b && r .link 1 c b) (not (eqb a c)) p in
-          let same = l .rf-once a c b (holds _ (and-left (r .link 1 a b) (r .link 1 c b) both)) (holds _ (and-right (r .link 1 a b) (r .link 1 c b) both)) in
-          false≢true (sym (ap not (eq-eqb a c same)) ∙ and-right (r .link 1 a b && r .link 1 c b) (not (eqb a c)) p)
+  one-source b = one-source-by r b (λ a c p q. l .rf-once a c b (holds (r .link 1 a b) p) (holds (r .link 1 c b) q))
 
   -- co does not lead back to its start.
   pub no-co-ring : some nodes (diagonal (base nodes r .co)) ≡ false

@@ -4,12 +4,14 @@ use mathlib.Core.Bool.{Bool, true, false}
 use mathlib.Core.List.{List, [], _++_, append-nil, append-assoc}
 use mathlib.Core.Logic.{inl, inr}
 use Prim.Native.Nat.{ℕ, zero, suc, _+_, _*_, _<_, _≤_}
+use native.Mathlib.Numerals.{add-one}
 use native.Mathlib.Omega.{arith}
 use native.Mathlib.Decide.{ℕ-discrete}
 use native.Mathlib.Nat.{add-zero, add-suc, mul-zero, mul-suc, mul-le-mul-left}
 use lib.ListN.{length, getD, length-append, List·getD-append}
 use lib.Seq.{getD-append-add}
 use Rattle.relation.specs.Rel.{Set, count}
+use Rattle.relation.proofs.SetLaws.{skip-to}
 use Rattle.translation.specs.Encode.{records}
 use Rattle.relation.proofs.Counting.{count-cases, count-lt}
 
@@ -21,6 +23,11 @@ module _ (record-of : ℕ → List ℕ) (s : Set) where
   pub records-no : (n : ℕ) → s n ≡ false → records record-of s (suc n) ≡ records record-of s n
   unfolding records
   records-no n e = rw (e, records) (append-nil (records record-of s n))
+
+  -- None is added where the set has no number.
+  pub records-none : (m n : ℕ) → m ≤ n → ((k : ℕ) → m ≤ k → k < n → s k ≡ false) → records record-of s n ≡ records record-of s m
+  records-none m n h f =
+      skip-to s (λ k. records record-of s k ≡ records record-of s m) (λ k e p. ap (records record-of s) (add-one k) ∙ records-no k e ∙ p) m n h f refl
 
 -- Records of z bytes.
 module _ (z : ℕ) (record-of : ℕ → List ℕ) (s : Set) (size : (k : ℕ) → length (record-of k) ≡ z) where

@@ -7,14 +7,12 @@ use Prim.Native.Nat.{ℕ, _<_, _≤_}
 use native.Mathlib.Omega.{arith}
 use native.Mathlib.Decide.{ℕ-discrete, decLe}
 use lib.Dec.{T}
-use Rattle.relation.proofs.Meaning.{and-left, and-right, and-both}
 use Rattle.models.specs.Recording.{Recording, event, ofClass, read, write, fence, access, exclusiveRead, strongWrite, releaseFence, fenceOf}
 use Rattle.models.specs.Translated.{Translated, Control, kept, after-read, after-pair, after-casdep}
-use Rattle.models.proofs.Tests.{or-left, or-right}
 use Rattle.models.proofs.MemberLaws.{class-event, class-is, mode-intro, access-event, access-cases}
 use Rattle.translation.specs.Contents.{Contents}
-use Rattle.translation.specs.Translate.{exclusive, strong, inserted, newEvents, after, keptOr, newMode, newFlag, newLink, translated}
-use Rattle.relation.proofs.Truth.{is-true, holds, same-test, is-false, by-test}
+use Rattle.translation.specs.Translate.{exclusive, strong, inserted, newEvents, after, keptOr, newMode, newFlag, translated}
+use Rattle.relation.proofs.Truth.{is-true, holds, same-test, is-false, by-test, and-left, and-right, and-both, T-or-left, T-or-right}
 use Rattle.translation.proofs.TranslateLaws as law
 use Rattle.translation.proofs.TranslateLaws.{flagged-is, Linked, stays, exclusively, casdep, New, new-is, new-intro}
 use Rattle.translation.proofs.Says.{Says, Event, initially, recorded, event-says, flagged-says}
@@ -44,29 +42,8 @@ module _ (S C : Recording ℕ) (s : Contents) (p : Says S s) (q : Says C (transl
   is-exclusive : (r : ℕ) → exclusive s r ≡ true → T (exclusiveRead S r)
   is-exclusive r h = holds (exclusiveRead S r) (flagged-says S s p 1 r ∙ h)
 
-  -- The events of C, said of the source's contents.
-  chip-recorded : (e : ℕ) → T (C .recorded e) → (1 ≤ e) × (e ≤ newEvents s)
-  unfolding translated
-  chip-recorded e h = q .recorded e h
-
-  is-chip : (e : ℕ) → 1 ≤ e → e ≤ newEvents s → T (C .recorded e)
-  unfolding translated
-  is-chip e h g = q .is-recorded e h g
-
-  chip-next : (a b : ℕ) → T (C .next a b) → (1 ≤ a) × (a ≤ newEvents s) × (1 ≤ b) × (b ≤ newEvents s) × (after s a ≡ b)
-  unfolding translated
-  chip-next a b h = q .next a b h
-
-  is-chip-next : (a b : ℕ) → 1 ≤ a → a ≤ newEvents s → 1 ≤ b → b ≤ newEvents s → after s a ≡ b → T (C .next a b)
-  unfolding translated
-  is-chip-next a b = q .is-next a b
-
   old-event : (e : ℕ) → e ≤ s .events → e ≤ newEvents s
   old-event e h = omega (arith, law.more-events s)
-
-  chip-link : (t a b : ℕ) → C .link t a b ≡ newLink s t a b
-  unfolding translated
-  chip-link = q .link
 
   same-initial : (e : ℕ) → C .initial e ≡ S .initial e
   unfolding translated
@@ -138,73 +115,55 @@ module _ (S C : Recording ℕ) (s : Contents) (p : Says S s) (q : Says C (transl
           let old = p .mode e i g in
           let bounds = ok .fence e i g c in
           let of : (k : ℕ) → s .mode e ≡ k → T (fenceOf S k e) = λ k x. mode-intro S 3 k e h (old ∙ x) in
-          let six : (s .mode e ≡ 1 → ⊥) → C .mode e ≡ 6 = λ d. m ∙ law.mode-other s e c d in
           elim (ℕ-discrete (s .mode e) 1) [
             | yes x ↦ inl (old ∙ x, m ∙ law.mode-acquire s e c x)
-            | no x ↦ elim (ℕ-discrete (s .mode e) 2) [
-              | yes y ↦ inr (or-left (fenceOf S 2 e || fenceOf S 3 e) (fenceOf S 4 e) (or-left (fenceOf S 2 e) (fenceOf S 3 e) (of 2 y)), six x)
+            | no x ↦ (let release : T (fenceOf S 2 e || fenceOf S 3 e || fenceOf S 4 e) = elim (ℕ-discrete (s .mode e) 2) [
+              | yes y ↦ (let here = of 2 y in search (T-or-left, T-or-right))
               | no y ↦ elim (ℕ-discrete (s .mode e) 3) [
-                | yes z ↦ inr (or-left (fenceOf S 2 e || fenceOf S 3 e) (fenceOf S 4 e) (or-right (fenceOf S 2 e) (fenceOf S 3 e) (of 3 z)), six x)
-                | no z ↦ inr (or-right (fenceOf S 2 e || fenceOf S 3 e) (fenceOf S 4 e) (of 4 (omega (arith, bounds, x, y, z))), six x)
+                | yes z ↦ (let here = of 3 z in search (T-or-left, T-or-right))
+                | no z ↦ (let here = of 4 (omega (arith, bounds, x, y, z)) in search (T-or-left, T-or-right))
               ]
-            ]
+            ] in inr (release, m ∙ law.mode-other s e c x))
           ]
 
   -- Chains.
+  -- After x here comes what comes after the record a there.
+  next-same : (x a b : ℕ) → 1 ≤ x → x ≤ newEvents s → 1 ≤ a → a ≤ s .events → after s x ≡ s .next a → C .next x b ≡ S .next a b
+  unfolding translated
+  next-same x a b i h j g e =
+      same-test (C .next x b) (S .next a b)
+      (λ k. (let w = q .next x b (holds (C .next x b) k) in
+      is-true (S .next a b) (p .is-next a b j g (w .2) (omega (arith, ok .next a j g, sym e ∙ w .4)) (sym e ∙ w .4))))
+      (λ k. (let w = p .next a b (holds (S .next a b) k) in is-true (C .next x b) (q .is-next x b i h (w .2) (old-event b (w .3)) (e ∙ w .4))))
+
   next-kept : (a b : ℕ) → T (S .recorded a) → ¬ T (strongWrite S a) → C .next a b ≡ S .next a b
-  next-kept a b h n =
-      let r = p .recorded a h in
-      let e = law.after-plain s a (r .1) (strong-not a n) in
-      same-test (C .next a b) (S .next a b)
-      (λ k. (let w = chip-next a b (holds (C .next a b) k) in
-      is-true (S .next a b) (p .is-next a b (r .0) (r .1) (w .2) (omega (arith, ok .next a (r .0) (r .1), sym e ∙ w .4)) (sym e ∙ w .4))))
-      (λ k. (let w = p .next a b (holds (S .next a b) k) in
-      is-true (C .next a b) (is-chip-next a b (w .0) (old-event a (w .1)) (w .2) (old-event b (w .3)) (e ∙ w .4))))
+  next-kept a b h n = (let r = p .recorded a h in next-same a a b (r .0) (old-event a (r .1)) (r .0) (r .1) (law.after-plain s a (r .1) (strong-not a n)))
 
   next-strong : (w b : ℕ) → T (strongWrite S w) → T (C .next w b) ↔ (b ≡ inserted s w)
+  unfolding translated
   next-strong w b h =
       let st = strong-is w h in
       let f = flagged-is s 2 w st in
       let e = law.after-strong s w st in
       let a = law.inserted-above s w st in
-      ((λ k. sym (chip-next w b k .4) ∙ e), (λ k. is-chip-next w b (f .low) (old-event w (f .high)) (omega (arith, a)) (omega (arith, a)) (e ∙ sym k)))
+      ((λ k. sym (q .next w b k .4) ∙ e), (λ k. q .is-next w b (f .low) (old-event w (f .high)) (omega (arith, a)) (omega (arith, a)) (e ∙ sym k)))
 
   next-inserted : (w b : ℕ) → T (strongWrite S w) → C .next (inserted s w) b ≡ S .next w b
   next-inserted w b h =
       let st = strong-is w h in
       let f = flagged-is s 2 w st in
-      let e = law.after-inserted s unfolded-few w st in
       let a = law.inserted-above s w st in
-      same-test (C .next (inserted s w) b) (S .next w b)
-      (λ k. (let v = chip-next (inserted s w) b (holds (C .next (inserted s w) b) k) in
-      is-true (S .next w b) (p .is-next w b (f .low) (f .high) (v .2) (omega (arith, ok .next w (f .low) (f .high), sym e ∙ v .4)) (sym e ∙ v .4))))
-      (λ k. (let v = p .next w b (holds (S .next w b) k) in
-      is-true (C .next (inserted s w) b) (is-chip-next (inserted s w) b (omega (arith, a)) (a .1) (v .2) (old-event b (v .3)) (e ∙ v .4))))
+      next-same (inserted s w) w b (omega (arith, a)) (a .1) (f .low) (f .high) (law.after-inserted s unfolded-few w st)
 
   -- Links.
-  link-in : (t a b : ℕ) → s .link t a b ≡ true → 1 ≤ t → t ≤ 6 → newLink s t a b ≡ true
-  link-in t a b e h g =
-      let w = ok .target t a b e in
-      new-intro s (λ x y k. (let v = ok .target 7 x y k in omega (arith, v, p .few))) t a b (record { low = w .0; high = old-event b (w .1); from = stays h g e })
+  -- The links of C are those of the translation, by where they come from.
+  link-is : (t a b : ℕ) → T (C .link t a b) → New s t a b
+  unfolding translated
+  link-is t a b h = new-is s t a b (sym (q .link t a b) ∙ is-true (C .link t a b) h)
 
-  same-link : (t : ℕ) → 1 ≤ t → t ≤ 5 → (a b : ℕ) → C .link t a b ≡ S .link t a b
-  same-link t h g a b =
-      chip-link t a b
-      ∙ same-test (newLink s t a b) (s .link t a b) (λ e. old (new-is s t a b e .from)) (λ e. link-in t a b e h (omega arith))
-      ∙ sym (p .link t a b)
-    where
-      old : Linked s t a b → s .link t a b ≡ true
-      old (stays _ _ l) = l
-      old (exclusively e _ _) = absurd (omega arith)
-      old (casdep _ e _ _) = absurd (omega arith)
-
-  no-casdep : (a b : ℕ) → ¬ T (C .link 7 a b)
-  no-casdep a b h = none (new-is s 7 a b (sym (chip-link 7 a b) ∙ is-true (C .link 7 a b) h) .from)
-    where
-      none : Linked s 7 a b → ⊥
-      none (stays _ g _) = omega arith
-      none (exclusively e _ _) = omega arith
-      none (casdep _ e _ _) = omega arith
+  is-link : (t a b : ℕ) → New s t a b → T (C .link t a b)
+  unfolding translated
+  is-link t a b n = holds (C .link t a b) (q .link t a b ∙ new-intro s (λ x y k. (let v = ok .target 7 x y k in omega (arith, v, p .few))) t a b n)
 
   source-link : (t a b : ℕ) → T (S .link t a b) → s .link t a b ≡ true
   source-link t a b h = sym (p .link t a b) ∙ is-true (S .link t a b) h
@@ -212,14 +171,37 @@ module _ (S C : Recording ℕ) (s : Contents) (p : Says S s) (q : Says C (transl
   is-source-link : (t a b : ℕ) → s .link t a b ≡ true → T (S .link t a b)
   is-source-link t a b h = holds (S .link t a b) (p .link t a b ∙ h)
 
+  link-kept : (t a b : ℕ) → s .link t a b ≡ true → 1 ≤ t → t ≤ 6 → New s t a b
+  link-kept t a b e h g = (let w = ok .target t a b e in record { low = w .0; high = old-event b (w .1); from = stays h g e })
+
+  same-link : (t : ℕ) → 1 ≤ t → t ≤ 5 → (a b : ℕ) → C .link t a b ≡ S .link t a b
+  same-link t h g a b =
+      same-test (C .link t a b) (S .link t a b)
+      (λ k. is-true (S .link t a b) (is-source-link t a b (old (link-is t a b (holds (C .link t a b) k) .from))))
+      (λ k. is-true (C .link t a b) (is-link t a b (link-kept t a b (sym (p .link t a b) ∙ k) h (omega arith))))
+    where
+      old : Linked s t a b → s .link t a b ≡ true
+      old (stays _ _ l) = l
+      old (exclusively e _ _) = absurd (omega arith)
+      old (casdep _ e _ _) = absurd (omega arith)
+
+  no-casdep : (a b : ℕ) → ¬ T (C .link 7 a b)
+  no-casdep a b h = none (link-is 7 a b h .from)
+    where
+      none : Linked s 7 a b → ⊥
+      none (stays _ g _) = omega arith
+      none (exclusively e _ _) = omega arith
+      none (casdep _ e _ _) = omega arith
+
   control : (a b : ℕ) → New s 6 a b → Control S C a b
+  unfolding translated
   control a b n = go (n .from)
     where
       pair : Bool
       pair = s .link 3 a (s .next a) && s .link 4 a (s .next a)
 
       goes : (x : ℕ) → 1 ≤ x → x ≤ newEvents s → after s x ≡ b → T (C .next x b)
-      goes x h g e = is-chip-next x b h g (n .low) (n .high) e
+      goes x h g e = q .is-next x b h g (n .low) (n .high) e
 
       not-both : pair ≡ false → (w : ℕ) → T (S .link 3 a w) → ¬ T (S .link 4 a w)
       not-both e w h k =
@@ -232,8 +214,8 @@ module _ (S C : Recording ℕ) (s : Contents) (p : Says S s) (q : Says C (transl
       go (exclusively _ x e) =
           let f = flagged-is s 1 a x in
           elim (by-test pair) [
-            | inl w ↦ (let u = and-left (s .link 3 a (s .next a)) (s .link 4 a (s .next a)) w in
-                let v = and-right (s .link 3 a (s .next a)) (s .link 4 a (s .next a)) w in
+            | inl w ↦ (let u : s .link 3 a (s .next a) ≡ true = search and-left in
+                let v : s .link 4 a (s .next a) ≡ true = search and-right in
                 let t = ok .target 3 a (s .next a) u in
                 after-pair (s .next a) (is-exclusive a x) (is-source-link 3 a (s .next a) u) (is-source-link 4 a (s .next a) v)
                 (goes (s .next a) (t .0) (old-event (s .next a) (t .1)) (sym (law.controlled-pair s a u v) ∙ e)))
@@ -242,23 +224,20 @@ module _ (S C : Recording ℕ) (s : Contents) (p : Says S s) (q : Says C (transl
       go (casdep e _ l k) = (let t = ok .target 7 a e l in after-casdep e (is-source-link 7 a e l) (goes e (t .0) (old-event e (t .1)) k))
 
   is-control : (a b : ℕ) → Control S C a b → New s 6 a b
-  is-control a b (kept h) =
-      let e = source-link 6 a b h in
-      let t = ok .target 6 a b e in
-      record { low = t .0; high = old-event b (t .1); from = stays (omega arith) (omega arith) e }
+  unfolding translated
+  is-control a b (kept h) = link-kept 6 a b (source-link 6 a b h) (omega arith) (omega arith)
   is-control a b (after-read x n h) =
-      let w = chip-next a b h in
-      let pair = is-false (s .link 3 a (s .next a) && s .link 4 a (s .next a)) (λ e. n (s .next a)
-      (is-source-link 3 a (s .next a) (and-left (s .link 3 a (s .next a)) (s .link 4 a (s .next a)) e))
-      (is-source-link 4 a (s .next a) (and-right (s .link 3 a (s .next a)) (s .link 4 a (s .next a)) e))) in
+      let w = q .next a b h in
+      let pair = is-false (s .link 3 a (s .next a) && s .link 4 a (s .next a)) (λ e.
+      n (s .next a) (is-source-link 3 a (s .next a) (search and-left)) (is-source-link 4 a (s .next a) (search and-right))) in
       record { low = w .2; high = w .3; from = exclusively refl (exclusive-is a x) (law.controlled-read s a pair ∙ w .4) }
   is-control a b (after-pair v x h k m) =
-      let w = chip-next v b m in
+      let w = q .next v b m in
       let u = source-link 3 a v h in
       let same = ok .rmw a v u in
       record { low = w .2; high = w .3; from = exclusively refl (exclusive-is a x) (law.controlled-pair s a (ap (s .link 3 a) same ∙ u) (ap (s .link 4 a) same ∙ source-link 4 a v k) ∙ ap (after s) same ∙ w .4) }
   is-control a b (after-casdep e h m) =
-      let w = chip-next e b m in
+      let w = q .next e b m in
       record { low = w .2; high = w .3; from = casdep e refl (source-link 7 a e h) (w .4) }
 
   pub relates : Translated S C
@@ -266,9 +245,9 @@ module _ (S C : Recording ℕ) (s : Contents) (p : Says S s) (q : Says C (transl
   relates = record {
     inserted = inserted s;
     initial = same-initial;
-    recorded = λ e h. (let r = p .recorded e h in is-chip e (r .0) (old-event e (r .1)));
-    recorded-new = λ w h. (let a = law.inserted-above s w (strong-is w h) in is-chip (inserted s w) (omega (arith, a)) (a .1));
-    recorded-only = λ e h. (let r = chip-recorded e h in elim (decLe e (s .events)) [
+    recorded = λ e h. (let r = p .recorded e h in q .is-recorded e (r .0) (old-event e (r .1)));
+    recorded-new = λ w h. (let a = law.inserted-above s w (strong-is w h) in q .is-recorded (inserted s w) (omega (arith, a)) (a .1));
+    recorded-only = λ e h. (let r = q .recorded e h in elim (decLe e (s .events)) [
       | yes g ↦ inl (p .is-recorded e (r .0) g)
       | no g ↦ (let v = law.inserted-every s e (omega (arith, g)) (r .1) in inr (v .0, holds (strongWrite S (v .0)) (flagged-says S s p 2 (v .0) ∙ v .1), sym (v .2)))
     ]);
@@ -282,15 +261,12 @@ module _ (S C : Recording ℕ) (s : Contents) (p : Says S s) (q : Says C (transl
     fence-mode = fence-mode;
     inserted-class = λ w h. (let a = law.inserted-above s w (strong-is w h) in q .class (inserted s w) (omega (arith, a)) (a .1) ∙ law.made s (s .class) 3 (inserted s w) (a .0));
     inserted-mode = λ w h. (let a = law.inserted-above s w (strong-is w h) in q .mode (inserted s w) (omega (arith, a)) (a .1) ∙ law.made s (newMode s) 5 (inserted s w) (a .0));
-    next-source = λ a b h. (let w = chip-next a b h in is-chip a (w .0) (w .1));
+    next-source = λ a b h. (let w = q .next a b h in q .is-recorded a (w .0) (w .1));
     next-kept = next-kept;
     next-strong = next-strong;
     next-inserted = next-inserted;
     link = same-link;
-    ctrl = λ a b. (
-      (λ h. control a b (new-is s 6 a b (sym (chip-link 6 a b) ∙ is-true (C .link 6 a b) h))),
-      (λ h. holds (C .link 6 a b) (chip-link 6 a b ∙ new-intro s (λ x y k. (let v = ok .target 7 x y k in omega (arith, v, p .few))) 6 a b (is-control a b h))),
-    );
+    ctrl = λ a b. ((λ h. control a b (link-is 6 a b h)), (λ h. is-link 6 a b (is-control a b h)));
     casdep = no-casdep;
   }
     where

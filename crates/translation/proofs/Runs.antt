@@ -1,6 +1,6 @@
 -- Runs of numbers, and the chains that follow them: each number is followed by the next, and the last by 0.
 use mathlib.Core.Path.{_≡_, refl, sym, ap, _∙_}
-use mathlib.Core.Bool.{Bool, true, false, not, _&&_, _||_, false≢true}
+use mathlib.Core.Bool.{Bool, true, false, not, _||_, false≢true}
 use mathlib.Core.List.{List, [], _∷_, _++_}
 use mathlib.Core.Logic.{inl, inr}
 use Prim.Native.Nat.{ℕ, zero, suc, _+_, _<_, _≤_}
@@ -8,9 +8,9 @@ use native.Mathlib.Omega.{arith}
 use native.Mathlib.Nat.{add-zero}
 use native.Mathlib.Decide.{ℕ-discrete}
 use borrow.Author.Tests.{eq-eqb, ne-eqb, le-leb, lt-ltb, le-ltb}
-use lib.Dec.{eqb, leb}
+use lib.Dec.{eqb}
 use Rattle.relation.specs.Rel.{Set, some}
-use Rattle.relation.proofs.Meaning.{and-both, or-left, or-right, or-either}
+use Rattle.relation.proofs.Truth.{and-both, or-left, or-right, or-either}
 use Rattle.layout.specs.Chains.{among, follow, fresh, each, allMet, onceEach, allOf}
 use Rattle.translation.specs.Encode.{chained}
 
@@ -65,9 +65,10 @@ run-fresh : (limit lo d : ℕ) (seen : List ℕ) → lo + d ≤ limit → ((x : 
 unfolding run fresh among
 run-fresh limit lo zero seen h f = refl
 run-fresh limit lo (suc d) seen h f =
-    and-both (leb (suc lo) limit && not (among (suc lo) seen)) (fresh limit (suc lo ∷ seen) (run (suc lo) d))
-    (and-both (leb (suc lo) limit) (not (among (suc lo) seen)) (le-leb (suc lo) limit (omega arith)) (ap not (f (suc lo) (omega arith))))
-    (run-fresh limit (suc lo) d (suc lo ∷ seen) (omega arith) later)
+    let rest = run-fresh limit (suc lo) d (suc lo ∷ seen) (omega arith) later in
+    let new = ap not (f (suc lo) (omega arith)) in
+    let within : suc lo ≤ limit = omega arith in
+    search (and-both, le-leb)
   where
     later : (x : ℕ) → suc lo < x → among x (suc lo ∷ seen) ≡ false
     later x g = ap (λ (b : Bool). b || among x seen) (ne-eqb x (suc lo) (λ e. omega arith)) ∙ f x (omega arith)

@@ -1,27 +1,25 @@
 -- A recording says of each event what contents say: the recording of a file says what its records say, and the recording of an
 -- encoded file what was encoded.
-use mathlib.Core.Path.{_≡_, refl, sym, ap, ap₂, _∙_}
+use mathlib.Core.Path.{_≡_, refl, sym, ap₂, _∙_}
 use mathlib.Core.Bool.{true, _&&_}
 use mathlib.Core.List.{List}
-use Prim.Native.Nat.{ℕ, _+_, _-_, _*_, _<_, _≤_}
+use Prim.Native.Nat.{ℕ, zero, suc, _+_, _-_, _*_, _<_, _≤_}
 use native.Mathlib.Omega.{arith}
-use native.Mathlib.Nat.{add-zero}
-use borrow.Author.Tests.{eqb-true, eq-eqb, leb-true, le-leb, ltb-true, lt-ltb}
-use lib.Dec.{T, eqb, leb, ltb}
+use borrow.Author.Tests.{eqb-true, eq-eqb, leb-true, le-leb, ltb-true}
+use lib.Dec.{T, eqb}
 use lib.ListN.{getD}
-use Rattle.relation.proofs.Meaning.{and-left, and-right, and-both}
 use mathlib.Core.Logic.{inl, inr}
 use Rattle.models.specs.Recording.{Recording, event}
 use Rattle.models.specs.Recording as recording
 use Rattle.models.proofs.MemberLaws.{initial-event, recorded-event, event-cases, class-event, class-is, class-intro, flag-class, flag-is, flag-intro}
 use Rattle.layout.specs.Layout.{events, locations, eventByte}
-use Rattle.layout.specs.Chains.{nextOf, nextEvent}
+use Rattle.layout.specs.Chains.{nextEvent}
 use Rattle.layout.specs.Decode.{isRecorded, isInitial, fieldOr, decode}
-use Rattle.layout.proofs.FieldLaws.{recorded-bounds, recorded-is, record-initial, record-recorded, field-initial, field-recorded}
+use Rattle.layout.proofs.FieldLaws.{recorded-bounds, recorded-is, record-initial, record-recorded, field-initial, field-recorded, next-first}
 use Rattle.translation.specs.Contents.{Contents, contents}
 use Rattle.translation.specs.Translate.{flagged}
 use Rattle.translation.specs.Encode.{eventRecord, encode}
-use Rattle.relation.proofs.Truth.{is-true, holds, same-test}
+use Rattle.relation.proofs.Truth.{is-true, holds, same-test, and-left, and-right, and-both}
 use Rattle.translation.proofs.TranslateLaws.{flagged-is, flagged-intro}
 use Rattle.translation.proofs.EncodeLaws.{encode-events, encode-locations, encode-event}
 use Rattle.translation.proofs.EncodedLinks.{LinksFit, encoded-link}
@@ -85,38 +83,37 @@ module _ (r : Recording ℕ) (c : Contents) (q : Says r c) where
       (λ p. (let h = holds (recording.flagged r k e) p in flagged-to k e h (event-says e (class-event r k e (flag-class r k e h)))))
       (λ p. is-true (recording.flagged r k e) (flagged-from k e p))
 
--- The bytes of a file's records are those of contents.
+-- The bytes of a file's records are those of contents, but for an event's first link.
 pub record Bytes (f : List ℕ) (c : Contents) : Type 0 where
   pub few : c .events < 56
   pub events : events f ≡ c .events
   pub locations : locations f ≡ c .locations
-  pub next : (e : ℕ) → 1 ≤ e → e ≤ c .events → nextEvent f e ≡ c .next e
-  pub class : (e : ℕ) → 1 ≤ e → e ≤ c .events → eventByte f e 1 ≡ c .class e
-  pub mode : (e : ℕ) → 1 ≤ e → e ≤ c .events → eventByte f e 2 ≡ c .mode e
-  pub flag : (e : ℕ) → 1 ≤ e → e ≤ c .events → eventByte f e 3 ≡ c .flag e
-  pub location : (e : ℕ) → 1 ≤ e → e ≤ c .events → eventByte f e 4 ≡ c .location e
-  pub low : (e : ℕ) → 1 ≤ e → e ≤ c .events → eventByte f e 5 ≡ c .low e
-  pub high : (e : ℕ) → 1 ≤ e → e ≤ c .events → eventByte f e 6 ≡ c .high e
+  pub byte : (k : ℕ) → k < 7 → (e : ℕ) → 1 ≤ e → e ≤ c .events → eventByte f e k ≡ getD (eventRecord c e) k 0
   pub link : (t a b : ℕ) → decode f .link t a b ≡ c .link t a b
 
 module _ (f : List ℕ) (c : Contents) (b : Bytes f c) where
   there : (e : ℕ) → 1 ≤ e → e ≤ c .events → isRecorded f e ≡ true
   there e h g = recorded-is f e h (omega (arith, b .events))
 
-  field-at : (k given e x : ℕ) → eventByte f e k ≡ x → 1 ≤ e → e ≤ c .events → fieldOr f k given e ≡ x
-  field-at k given e x p h g = sym (field-recorded f k given e x (omega (arith, b .few)) (sym p) (there e h g))
+  field-at : (k given : ℕ) → k < 7 → (e : ℕ) → 1 ≤ e → e ≤ c .events → fieldOr f k given e ≡ getD (eventRecord c e) k 0
+  field-at k given small e h g = sym (field-recorded f k given e _ (omega (arith, b .few)) (sym (b .byte k small e h g)) (there e h g))
+
+  pub next-byte : (e : ℕ) → 1 ≤ e → e ≤ c .events → nextEvent f e ≡ c .next e
+  unfolding eventRecord
+  next-byte e h g = sym (next-first f e) ∙ b .byte 0 (omega arith) e h g
 
   initial-bounds : (e : ℕ) → isInitial f e ≡ true → (56 ≤ e) × (e < 56 + c .locations)
   unfolding isInitial
   initial-bounds e p =
-      (leb-true 56 e (and-left (leb 56 e) (ltb e (56 + locations f)) p), omega (arith, ltb-true e (56 + locations f) (and-right (leb 56 e) (ltb e (56 + locations f)) p), b .locations))
+      let high : e < 56 + locations f = search (and-right, ltb-true) in
+      (search (and-left, leb-true), omega (arith, b .locations))
 
   initial-is : (e : ℕ) → 56 ≤ e → e < 56 + c .locations → isInitial f e ≡ true
   unfolding isInitial
-  initial-is e h g = and-both (leb 56 e) (ltb e (56 + locations f)) (le-leb 56 e h) (lt-ltb e (56 + locations f) (omega (arith, b .locations)))
+  initial-is e h g = (let high : e < 56 + locations f = omega (arith, b .locations) in search (and-both, le-leb))
 
   pub bytes-say : Says (decode f) c
-  unfolding decode fieldOr
+  unfolding decode fieldOr eventRecord
   bytes-say =
       record {
         few = b .few;
@@ -124,11 +121,11 @@ module _ (f : List ℕ) (c : Contents) (b : Bytes f c) where
         is-recorded = λ e h g. holds (isRecorded f e) (there e h g);
         initial = λ e h. initial-bounds e (is-true (isInitial f e) h);
         is-initial = λ e h g. holds (isInitial f e) (initial-is e h g);
-        class = λ e h g. field-at 1 2 e (c .class e) (b .class e h g) h g;
-        mode = λ e h g. field-at 2 0 e (c .mode e) (b .mode e h g) h g;
-        flag = λ e h g. field-at 3 0 e (c .flag e) (b .flag e h g) h g;
-        location = λ e h g. sym (record-recorded f (λ x. x - 56) (λ x. eventByte f x 4) e (omega (arith, b .few)) (there e h g)) ∙ b .location e h g;
-        value = λ e h g. ap₂ (λ (x y : ℕ). x + 256 * y) (field-at 5 0 e (c .low e) (b .low e h g) h g) (field-at 6 0 e (c .high e) (b .high e h g) h g);
+        class = field-at 1 2 (omega arith);
+        mode = field-at 2 0 (omega arith);
+        flag = field-at 3 0 (omega arith);
+        location = λ e h g. sym (record-recorded f (λ x. x - 56) (λ x. eventByte f x 4) e (omega (arith, b .few)) (there e h g)) ∙ b .byte 4 (omega arith) e h g;
+        value = λ e h g. ap₂ (λ (x y : ℕ). x + 256 * y) (field-at 5 0 (omega arith) e h g) (field-at 6 0 (omega arith) e h g);
         initial-class = λ e h. sym (field-initial f 1 2 e h);
         initial-mode = λ e h. sym (field-initial f 2 0 e h);
         initial-flag = λ e h. sym (field-initial f 3 0 e h);
@@ -136,54 +133,51 @@ module _ (f : List ℕ) (c : Contents) (b : Bytes f c) where
         initial-value = λ e h. ap₂ (λ (x y : ℕ). x + 256 * y) (sym (field-initial f 5 0 e h)) (sym (field-initial f 6 0 e h));
         next = λ x y h. next-parts x y (is-true (isRecorded f x && isRecorded f y && eqb (nextEvent f x) y) h);
         is-next = λ x y p q u v e. holds (isRecorded f x && isRecorded f y && eqb (nextEvent f x) y)
-            (and-both (isRecorded f x && isRecorded f y) (eqb (nextEvent f x) y) (and-both (isRecorded f x) (isRecorded f y) (there x p q) (there y u v))
-            (eq-eqb (nextEvent f x) y (b .next x p q ∙ e)));
+            (let here = there x p q in let other = there y u v in let same = next-byte x p q ∙ e in search (and-both, eq-eqb));
         link = b .link;
       }
     where
       next-parts : (x y : ℕ) → isRecorded f x && isRecorded f y && eqb (nextEvent f x) y ≡ true → (1 ≤ x) × (x ≤ c .events) × (1 ≤ y) × (y ≤ c .events) × (c .next x ≡ y)
       next-parts x y p =
-          let both = and-left (isRecorded f x && isRecorded f y) (eqb (nextEvent f x) y) p in
-          let u = recorded-bounds f x (and-left (isRecorded f x) (isRecorded f y) both) in
-          let v = recorded-bounds f y (and-right (isRecorded f x) (isRecorded f y) both) in
+          let u = recorded-bounds f x (search (and-left, and-right)) in
+          let v = recorded-bounds f y (search (and-left, and-right)) in
           let g : x ≤ c .events = omega (arith, u .1, b .events) in
-          (u .0, g, v .0, omega (arith, v .1, b .events), sym (b .next x (u .0) g) ∙ eqb-true (nextEvent f x) y (and-right (isRecorded f x && isRecorded f y) (eqb (nextEvent f x) y) p))
+          let same : nextEvent f x ≡ y = search (and-right, eqb-true) in
+          (u .0, g, v .0, omega (arith, v .1, b .events), sym (next-byte x (u .0) g) ∙ same)
 
 -- A file says what its records say.
+pub contents-bytes : (f : List ℕ) → events f < 56 → Bytes f (contents f)
+unfolding contents eventRecord
+contents-bytes f h = record { few = h; events = refl; locations = refl; byte = byte; link = λ t a b. refl }
+  where
+    byte : (k : ℕ) → k < 7 → (e : ℕ) → 1 ≤ e → e ≤ events f → eventByte f e k ≡ getD (eventRecord (contents f) e) k 0
+    byte zero h e p q = next-first f e
+    byte (suc zero) h e p q = refl
+    byte (suc (suc zero)) h e p q = refl
+    byte (suc (suc (suc zero))) h e p q = refl
+    byte (suc (suc (suc (suc zero)))) h e p q = refl
+    byte (suc (suc (suc (suc (suc zero))))) h e p q = refl
+    byte (suc (suc (suc (suc (suc (suc zero)))))) h e p q = refl
+    byte (suc (suc (suc (suc (suc (suc (suc k))))))) h e p q = absurd (omega arith)
+
 pub contents-say : (f : List ℕ) → events f < 56 → Says (decode f) (contents f)
-unfolding contents
-contents-say f h = bytes-say f (contents f) (record {
-  few = h;
-  events = refl;
-  locations = refl;
-  next = λ e p q. refl;
-  class = λ e p q. refl;
-  mode = λ e p q. refl;
-  flag = λ e p q. refl;
-  location = λ e p q. refl;
-  low = λ e p q. refl;
-  high = λ e p q. refl;
-  link = λ t a b. refl;
-})
+contents-say f h = bytes-say f (contents f) (contents-bytes f h)
 
 -- An encoded file says what was encoded.
 module _ (c : Contents) where
   pub encode-next : (e : ℕ) → 1 ≤ e → e ≤ c .events → nextEvent (encode c) e ≡ c .next e
-  unfolding nextOf eventRecord
-  encode-next e h g = ap (λ (i : ℕ). getD (encode c) i 0) (sym (add-zero (8 + 8 * (e - 1)))) ∙ encode-event c e 0 h g (omega arith)
+  unfolding eventRecord
+  encode-next e h g = sym (next-first (encode c) e) ∙ encode-event c e 0 h g (omega arith)
+
+  pub encode-bytes : LinksFit c → c .events < 56 → Bytes (encode c) c
+  encode-bytes fit h =
+      record {
+        few = h;
+        events = encode-events c;
+        locations = encode-locations c;
+        byte = λ k small e p q. encode-event c e k p q (omega arith);
+        link = encoded-link c fit;
+      }
 
   pub encode-says : LinksFit c → c .events < 56 → Says (decode (encode c)) c
-  unfolding eventRecord
-  encode-says fit h = bytes-say (encode c) c (record {
-    few = h;
-    events = encode-events c;
-    locations = encode-locations c;
-    next = encode-next;
-    class = λ e p q. encode-event c e 1 p q (omega arith);
-    mode = λ e p q. encode-event c e 2 p q (omega arith);
-    flag = λ e p q. encode-event c e 3 p q (omega arith);
-    location = λ e p q. encode-event c e 4 p q (omega arith);
-    low = λ e p q. encode-event c e 5 p q (omega arith);
-    high = λ e p q. encode-event c e 6 p q (omega arith);
-    link = encoded-link c fit;
-  })
+  encode-says fit h = bytes-say (encode c) c (encode-bytes fit h)

@@ -1,22 +1,19 @@
 -- What loading ensures of a source file for its translation: the limits, chains and links that the definitions and the code go by.
 use mathlib.Core.Path.{_≡_}
-use mathlib.Core.Bool.{true, _&&_}
+use mathlib.Core.Bool.{true}
 use mathlib.Core.List.{List, []}
 use Prim.Native.Nat.{ℕ, _<_, _≤_}
 use native.Mathlib.Omega.{arith}
-use lib.Dec.{eqb}
-use Rattle.relation.specs.Rel.{some}
-use Rattle.relation.proofs.Meaning.{and-left, and-right}
 use Rattle.models.specs.Recording as recording
 use Rattle.models.specs.Recording.{event}
 use Rattle.models.specs.Loads.{Loads}
-use Rattle.layout.specs.Layout.{side, events, locations, links, threads, linkByte, Sized}
-use Rattle.layout.specs.Chains.{nextEvent, head, linksInto, fresh, allMet, onceEach, among, threadsUpTo}
-use Rattle.layout.specs.Decode.{isRecorded, decode}
+use Rattle.layout.specs.Layout.{side, events, locations, links, threads, Sized}
+use Rattle.layout.specs.Chains.{nextEvent, head, fresh, onceEach, among, threadsUpTo}
+use Rattle.layout.specs.Decode.{decode}
 use Rattle.recording.specs.Causes.{linkLegal}
 use Rattle.layout.proofs.FieldLaws.{recorded-bounds, event-small}
 use Rattle.layout.proofs.ChainLaws.{each-at}
-use Rattle.relation.proofs.Truth.{is-true, holds}
+use Rattle.relation.proofs.Truth.{is-true, holds, and-left, and-right}
 use Rattle.layout.proofs.ChainFacts.{chain-ended, ended-start, ended-next, met-cases}
 use Rattle.recording.proofs.Accepted.{threads-sound, legal-link, source-limits, sized as loaded-sized}
 use Rattle.recording.proofs.Loaded as loaded
@@ -49,14 +46,12 @@ module _ (f : List ℕ) (s : Source f) where
 
   pub link-target : (t a b : ℕ) → decode f .link t a b ≡ true → (1 ≤ b) × (b ≤ events f)
   unfolding decode
-  link-target t a b e = recorded-bounds f b (and-left (isRecorded f b) (some (linksInto f b) (λ m. eqb (linkByte f m 1) t && eqb (linkByte f m 2) a)) e)
+  link-target t a b e = recorded-bounds f b (search and-left)
 
   -- Chains.
   pub threads-fresh : fresh (events f) [] (threadsUpTo f threads) ≡ true
   unfolding onceEach
-  threads-fresh =
-      let l = threadsUpTo f threads in
-      and-left (fresh (events f) [] l) (allMet (events f) l) (threads-sound f (s .loads))
+  threads-fresh = (let once = threads-sound f (s .loads) in search and-left)
 
   pub head-within : (t : ℕ) → t < threads → head f t ≤ events f
   head-within t h = ended-start (events f) (nextEvent f) (chain-ended (events f) (nextEvent f) (head f) threads t h threads-fresh)
@@ -64,8 +59,8 @@ module _ (f : List ℕ) (s : Source f) where
   pub next-within : (e : ℕ) → 1 ≤ e → e ≤ events f → nextEvent f e ≤ events f
   unfolding onceEach
   next-within e h g =
-      let l = threadsUpTo f threads in
-      let m = each-at (events f) (λ x. among x l) (and-right (fresh (events f) [] l) (allMet (events f) l) (threads-sound f (s .loads))) e h g in
+      let once = threads-sound f (s .loads) in
+      let m = each-at (events f) (λ x. among x (threadsUpTo f threads)) (search and-right) e h g in
       let w = met-cases (events f) (nextEvent f) (head f) threads e m in
       ended-next (events f) (nextEvent f) e (chain-ended (events f) (nextEvent f) (head f) threads (w .0) (w .1) threads-fresh) (w .2)
 

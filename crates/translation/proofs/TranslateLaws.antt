@@ -1,14 +1,15 @@
 -- Laws of the translation's definitions: strong writes, inserted fences, the new chain and the new links.
 use mathlib.Core.Path.{_≡_, refl, ap, _∙_}
-use mathlib.Core.Bool.{Bool, true, false, _&&_, _||_}
+use mathlib.Core.Bool.{Bool, true, false, _&&_, _||_, and-false}
 use mathlib.Core.Logic.{inl, inr}
 use Prim.Native.Nat.{ℕ, suc, _-_, _<_, _≤_}
 use native.Mathlib.Omega.{arith}
 use borrow.Author.Tests.{le-leb, lt-leb, leb-true, eqb-true, eq-eqb, ne-eqb}
 use lib.Dec.{eqb, leb}
 use Rattle.relation.specs.Rel.{Set, nodes}
-use Rattle.relation.proofs.Meaning.{and-left, and-right, and-both, or-either, or-left, or-right, compose-sound, compose-complete, mem-below}
-use Rattle.relation.proofs.SetLaws.{least-at, and-false}
+use Rattle.relation.proofs.Truth.{and-left, and-right, and-both, or-either, or-left, or-right}
+use Rattle.relation.proofs.Meaning.{compose-sound, compose-complete, mem-below}
+use Rattle.relation.proofs.SetLaws.{least-at}
 use Rattle.translation.specs.Contents.{Contents}
 use Rattle.translation.specs.Translate.{flagged, exclusive, strong, inserted, newEvents, fenced, after, follows, keptOr, newMode, newFlag, controlled, fromExclusive, fromCasdep, newLink}
 use Rattle.relation.proofs.Counting.{count-lt, count-injective, select}
@@ -24,29 +25,11 @@ module _ (s : Contents) where
 
   pub flagged-is : (k e : ℕ) → flagged s k e ≡ true → Flagged k e
   unfolding flagged
-  flagged-is k e p =
-      let a = leb 1 e in
-      let b = leb e (s .events) in
-      let c = eqb (s .class e) k in
-      let d = eqb (s .flag e) 1 in
-      let abc = and-left (a && b && c) d p in
-      let ab = and-left (a && b) c abc in
-      record {
-        low = leb-true 1 e (and-left a b ab);
-        high = leb-true e (s .events) (and-right a b ab);
-        class = eqb-true (s .class e) k (and-right (a && b) c abc);
-        flag = eqb-true (s .flag e) 1 (and-right (a && b && c) d p);
-      }
+  flagged-is k e p = search (and-left, and-right, leb-true, eqb-true)
 
   pub flagged-intro : (k e : ℕ) → Flagged k e → flagged s k e ≡ true
   unfolding flagged
-  flagged-intro k e w =
-      let a = leb 1 e in
-      let b = leb e (s .events) in
-      let c = eqb (s .class e) k in
-      and-both (a && b && c) (eqb (s .flag e) 1)
-      (and-both (a && b) c (and-both a b (le-leb 1 e (w .low)) (le-leb e (s .events) (w .high))) (eq-eqb (s .class e) k (w .class)))
-      (eq-eqb (s .flag e) 1 (w .flag))
+  flagged-intro k e w = search (and-both, le-leb, eq-eqb)
 
   -- Inserted fences are numbered N + 1 to the new N.
   pub inserted-above : (w : ℕ) → strong s w ≡ true → (s .events < inserted s w) × (inserted s w ≤ newEvents s)
@@ -159,8 +142,7 @@ module _ (s : Contents) where
 
   exclusive-is : (t a b : ℕ) → t ≡ 6 → fromExclusive s a b ≡ true → Linked t a b
   unfolding fromExclusive
-  exclusive-is t a b e p =
-      exclusively e (and-left (exclusive s a) (eqb (controlled s a) b) p) (eqb-true (controlled s a) b (and-right (exclusive s a) (eqb (controlled s a) b) p))
+  exclusive-is t a b e p = exclusively e (search and-left) (search (and-right, eqb-true))
 
   casdep-is : (t a b : ℕ) → t ≡ 6 → fromCasdep s a b ≡ true → Linked t a b
   unfolding fromCasdep follows
@@ -169,37 +151,24 @@ module _ (s : Contents) where
   pub new-is : (t a b : ℕ) → newLink s t a b ≡ true → New t a b
   unfolding newLink
   new-is t a b p =
-      let x = leb 1 b in
-      let y = leb b (newEvents s) in
-      let old = leb 1 t && leb t 6 && s .link t a b in
-      let added = fromExclusive s a b || fromCasdep s a b in
-      let xy = and-left (x && y) (old || (eqb t 6 && added)) p in
       record {
-        low = leb-true 1 b (and-left x y xy);
-        high = leb-true b (newEvents s) (and-right x y xy);
-        from = elim (or-either old (eqb t 6 && added) (and-right (x && y) (old || (eqb t 6 && added)) p)) [
-          | inl q ↦ (let r = and-left (leb 1 t && leb t 6) (s .link t a b) q in
-              stays (leb-true 1 t (and-left (leb 1 t) (leb t 6) r)) (leb-true t 6 (and-right (leb 1 t) (leb t 6) r)) (and-right (leb 1 t && leb t 6) (s .link t a b) q))
-          | inr q ↦ (let e = eqb-true t 6 (and-left (eqb t 6) added q) in
-              elim (or-either (fromExclusive s a b) (fromCasdep s a b) (and-right (eqb t 6) added q)) [ inl z ↦ exclusive-is t a b e z | inr z ↦ casdep-is t a b e z ])
+        low = search (and-left, leb-true, and-right);
+        high = search (and-left, leb-true, and-right);
+        from = elim (or-either (leb 1 t && leb t 6 && s .link t a b) (eqb t 6 && (fromExclusive s a b || fromCasdep s a b)) (search and-right)) [
+          | inl q ↦ stays (search (and-left, and-right, leb-true)) (search (and-left, and-right, leb-true)) (search and-right)
+          | inr q ↦ (let e : t ≡ 6 = search (and-left, eqb-true) in
+              elim (or-either (fromExclusive s a b) (fromCasdep s a b) (search and-right)) [ inl z ↦ exclusive-is t a b e z | inr z ↦ casdep-is t a b e z ])
         ];
       }
 
   -- A casdep link ends in a number that a row has a bit for.
   pub new-intro : ((a e : ℕ) → s .link 7 a e ≡ true → e < 64) → (t a b : ℕ) → New t a b → newLink s t a b ≡ true
   unfolding newLink fromExclusive fromCasdep follows
-  new-intro small t a b n =
-      and-both (leb 1 b && leb b (newEvents s)) (old || (eqb t 6 && (fromExclusive s a b || fromCasdep s a b)))
-      (and-both (leb 1 b) (leb b (newEvents s)) (le-leb 1 b (n .low)) (le-leb b (newEvents s) (n .high))) (go (n .from))
+  new-intro small t a b n = (let from = go (n .from) in search (and-both, le-leb))
     where
-      old : Bool
-      old = leb 1 t && leb t 6 && s .link t a b
-
-      added : t ≡ 6 → fromExclusive s a b || fromCasdep s a b ≡ true → old || (eqb t 6 && (fromExclusive s a b || fromCasdep s a b)) ≡ true
-      added e p = or-right old (eqb t 6 && (fromExclusive s a b || fromCasdep s a b)) (and-both (eqb t 6) (fromExclusive s a b || fromCasdep s a b) (eq-eqb t 6 e) p)
-
-      go : Linked t a b → old || (eqb t 6 && (fromExclusive s a b || fromCasdep s a b)) ≡ true
-      go (stays p q l) = or-left old _ (and-both (leb 1 t && leb t 6) (s .link t a b) (and-both (leb 1 t) (leb t 6) (le-leb 1 t p) (le-leb t 6 q)) l)
-      go (exclusively e x q) = added e (or-left (fromExclusive s a b) (fromCasdep s a b) (and-both (exclusive s a) (eqb (controlled s a) b) x (eq-eqb (controlled s a) b q)))
+      go : Linked t a b → (leb 1 t && leb t 6 && s .link t a b) || (eqb t 6 && (fromExclusive s a b || fromCasdep s a b)) ≡ true
+      go (stays p q l) = search (or-left, and-both, le-leb)
+      go (exclusively e x q) = search (or-right, or-left, and-both, eq-eqb) depth 7
       go (casdep d e l q) =
-          added e (or-right (fromExclusive s a b) (fromCasdep s a b) (compose-complete nodes (s .link 7) (follows s) a d b (mem-below 64 d (small a d l)) l (eq-eqb (after s d) b q)))
+          let follows-it = compose-complete nodes (s .link 7) (follows s) a d b (mem-below 64 d (small a d l)) l (eq-eqb (after s d) b q) in
+          search (or-right, and-both, eq-eqb) depth 7

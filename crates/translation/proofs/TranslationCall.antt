@@ -95,8 +95,7 @@ pub fills-input : (input start : List ℕ) → start ≡ take (longest + 1) inpu
 fills-input input start read out r left w =
     elim (read-of input) [
       | inl e ↦ subst (λ (f : List ℕ). Fills (causeFor source f) (translation f) out r left) (read ∙ e) w
-      | inr (n, all, part) ↦ fills-other (causeFor source start) (causeFor source input) n (translation start) (translation input) out r left
-          (refused start n (ap refusal read ∙ part)) (refused input n all) w
+      | inr (n, all, part) ↦ fills-other (refused start n (ap refusal read ∙ part)) (refused input n all) w
     ]
   where
     refused : (f : List ℕ) (n : ℕ) → refusal f ≡ suc n → causeFor source f ≡ suc n

@@ -1,6 +1,6 @@
 -- Every translation of a source file that loads, loads, and is related to the source as `models` asks.
 use mathlib.Core.Path.{_≡_, refl, sym, ap, _∙_}
-use mathlib.Core.Bool.{true, false, not, _&&_, false≢true}
+use mathlib.Core.Bool.{true, false, not, false≢true}
 use mathlib.Core.List.{List}
 use mathlib.Core.Logic.{inl, inr}
 use Prim.Native.Nat.{ℕ, _+_, _*_, _<_, _≤_}
@@ -10,8 +10,8 @@ use borrow.Author.Tests.{eq-eqb, eqb-true, le-ltb, ltb-true}
 use lib.Dec.{T, eqb}
 use lib.ListN.{length}
 use Rattle.relation.specs.Rel.{nodes, below, inverse, some}
-use Rattle.relation.proofs.Meaning.{and-right, and-both, or-left, some-sound, below-mem}
-use Rattle.models.specs.Recording.{Recording, event, read, write, strongWrite, member, Fisb}
+use Rattle.relation.proofs.Meaning.{some-sound, below-mem}
+use Rattle.models.specs.Recording.{Recording, event, write, strongWrite, member, Fisb}
 use Rattle.models.specs.Loads.{Loads}
 use Rattle.models.specs.Translated.{Translated}
 use Rattle.models.proofs.FromTranslated.{translation-loads}
@@ -20,13 +20,13 @@ use Rattle.layout.specs.Layout as layout
 use Rattle.layout.specs.Layout.{Side, sideOf, side, events, locations, threads, kindKnown, bySide, mostInThread, fullLength, linkByte}
 use Rattle.layout.specs.Chains.{thread, linksInto, allOf}
 use Rattle.layout.specs.Decode.{decode}
-use Rattle.recording.specs.Causes.{eventLegal, tooLong, legal, linkLegal, linkSound, oneSource, linksSoundAt, pairedAt, headerOver, rfLegal, sameLocations, tooShort, kindUnknown, overLimit, wrongLength, badEvent, longThread, badChains, badLink, coRing, unpaired, refusal}
+use Rattle.recording.specs.Causes.{eventLegal, tooLong, legal, linkLegal, linkSound, oneSource, linksSoundAt, pairedAt, headerOver, rfLegal, tooShort, kindUnknown, overLimit, wrongLength, badEvent, longThread, badChains, badLink, coRing, unpaired, refusal}
 use Rattle.translation.specs.Contents.{Contents, contents}
 use Rattle.translation.specs.Translate.{flagged, strong, newEvents, newFlag, translated}
 use Rattle.translation.specs.Encode.{linksBefore, linksUpTo, linkRecord, encode}
 use Rattle.translation.specs.Translation.{chip, translation}
 use Rattle.translation.specs.Parts.{Source}
-use Rattle.relation.proofs.Truth.{is-true, holds, is-false, by-test}
+use Rattle.relation.proofs.Truth.{is-true, holds, is-false, by-test, and-right, and-both, or-left}
 use Rattle.recording.proofs.Accepted.{accepts, each-all, legal-event}
 use Rattle.translation.proofs.EncodeLaws.{encode-length, encode-full, encode-kind, encode-events, encode-locations, encode-links}
 use Rattle.translation.proofs.Runs.{run-all}
@@ -44,8 +44,7 @@ use Rattle.translation.proofs.Relates.{Sound, relates}
 -- rf joins equal values.
 legal-values : (r : Recording ℕ) (s : Side) (a b : ℕ) → linkLegal r s 1 a b ≡ true → r .value a ≡ r .value b
 unfolding linkLegal rfLegal
-legal-values r s a b p =
-    eqb-true (r .value a) (r .value b) (and-right (sameLocations r a b) (eqb (r .value a) (r .value b)) (and-right (write r a && read r b) (sameLocations r a b && eqb (r .value a) (r .value b)) p))
+legal-values r s a b p = search (and-right, eqb-true)
 
 module _ (f : List ℕ) (s : Source f) where
   l : Loads (decode f)

@@ -1,20 +1,18 @@
 -- Chaining new numbers in: after each number of a set one new number of its own. Where nothing was met twice or never,
 -- nothing is afterwards.
 use mathlib.Core.Path.{_≡_, refl, sym, ap, subst, _∙_}
-use mathlib.Core.Bool.{Bool, true, false, not, _&&_, false≢true}
+use mathlib.Core.Bool.{true, false, not, _&&_, false≢true}
 use mathlib.Core.List.{List, [], _∷_, _++_}
 use mathlib.Core.Logic.{inl, inr}
 use Prim.Native.Nat.{ℕ, zero, suc, _+_, _<_, _≤_}
 use native.Mathlib.Omega.{arith}
 use native.Mathlib.Decide.{decLe}
 use borrow.Author.Tests.{le-leb}
-use lib.Dec.{leb}
 use lib.ListN.{length}
 use Rattle.relation.specs.Rel.{Set}
-use Rattle.relation.proofs.Meaning.{and-left, and-right, and-both}
 use Rattle.layout.specs.Chains.{among, chain, met, fresh, allMet, onceEach}
 use Rattle.layout.proofs.ChainLaws.{each-at}
-use Rattle.relation.proofs.Truth.{by-test}
+use Rattle.relation.proofs.Truth.{is-false, by-test, and-left, and-right, and-both}
 use Rattle.translation.specs.Threads.{countOf}
 use Rattle.recording.proofs.Accepted.{each-all}
 use Rattle.layout.proofs.ChainFacts.{Ended, end, step, among-here, among-there, among-cases, Fresh, fresh-cons, fresh-length, chain-ended, chain-fresh, ended-walk, ended-positive}
@@ -129,13 +127,6 @@ module _ (n m : ℕ) (next after : ℕ → ℕ) (s : Set) (new : ℕ → ℕ) (w
     low : (y : ℕ) → y ≤ n → among y seen′ ≡ true → among y seen ≡ true
     high : (y : ℕ) → s y ≡ true → among (new y) seen′ ≡ true → among y seen ≡ true
 
-  not-among : (x : ℕ) (l : List ℕ) → (among x l ≡ true → ⊥) → among x l ≡ false
-  not-among x l f = go (among x l) refl
-    where
-      go : (b : Bool) → among x l ≡ b → among x l ≡ false
-      go true e = absurd (f e)
-      go false e = e
-
   seen-old : (x : ℕ) (seen seen′ : List ℕ) → x ≤ n → Seen seen seen′ → Seen (x ∷ seen) (x ∷ seen′)
   seen-old x seen seen′ h v =
       record {
@@ -158,21 +149,19 @@ module _ (n m : ℕ) (next after : ℕ → ℕ) (s : Set) (new : ℕ → ℕ) (w
 
   made-fresh : (limit : ℕ) (seen : List ℕ) (x : ℕ) (l : List ℕ) → Fresh limit seen x l → fresh limit seen (x ∷ l) ≡ true
   unfolding fresh
-  made-fresh limit seen x l v =
-      and-both (leb x limit && not (among x seen)) (fresh limit (x ∷ seen) l)
-      (and-both (leb x limit) (not (among x seen)) (le-leb x limit (v .within)) (ap not (v .new))) (v .rest)
+  made-fresh limit seen x l v = (let new = ap not (v .new) in search (and-both, le-leb))
 
   woven-fresh : (seen seen′ l : List ℕ) → Seen seen seen′ → fresh n seen l ≡ true → fresh m seen′ (woven s new l) ≡ true
   unfolding woven fresh
   woven-fresh seen seen′ [] v f = refl
   woven-fresh seen seen′ (x ∷ l) v f =
       let k = fresh-cons n seen x l f in
-      let here : among x seen′ ≡ false = not-among x seen′ (λ p. false≢true (sym (k .new) ∙ v .low x (k .within) p)) in
+      let here : among x seen′ ≡ false = is-false (among x seen′) (λ p. false≢true (sym (k .new) ∙ v .low x (k .within) p)) in
       let old = seen-old x seen seen′ (k .within) v in
       elim (by-test (s x)) [
         | inl e ↦ (let a = w .above x e in
             let more = seen-new x (x ∷ seen) (x ∷ seen′) e (among-here x x seen refl) old in
-            let there : among (new x) (x ∷ seen′) ≡ false = not-among (new x) (x ∷ seen′) (λ p. elim (among-cases (new x) x seen′ p) [
+            let there : among (new x) (x ∷ seen′) ≡ false = is-false (among (new x) (x ∷ seen′)) (λ p. elim (among-cases (new x) x seen′ p) [
               | inl q ↦ omega (arith, a, q, k .within)
               | inr q ↦ false≢true (sym (k .new) ∙ v .high x e q)
             ]) in
@@ -226,7 +215,6 @@ module _ (n m : ℕ) (next after : ℕ → ℕ) (s : Set) (new : ℕ → ℕ) (w
   unfolding onceEach
   woven-once start k e =
       let l = met n next start k in
-      let f = and-left (fresh n [] l) (allMet n l) e in
-      let g = and-right (fresh n [] l) (allMet n l) e in
+      let f : fresh n [] l ≡ true = search and-left in
       ap (λ (z : List ℕ). fresh m [] z && allMet m z) (woven-chains start k f k (omega arith))
-      ∙ and-both (fresh m [] (woven s new l)) (allMet m (woven s new l)) (woven-fresh [] [] l (nothing-seen []) f) (woven-met l g)
+      ∙ and-both (fresh m [] (woven s new l)) (allMet m (woven s new l)) (woven-fresh [] [] l (nothing-seen []) f) (woven-met l (search and-right))

@@ -1,8 +1,7 @@
 // The x86-TSO verdict over the base of an execution graph: the rules of `models` and what is shown of them.
 
-pub mod file;
 mod order;
-mod why;
+pub mod why;
 
 use verdict::Verdict;
 use verdict::base;
@@ -24,7 +23,7 @@ pub fn judge(sets: Sets, relations: Relations) -> Verdict
     if broken.len != 0 {
         return broken;
     }
-    // Rule 5.
-    let tso = order::tso(sets, relations, fr);
+    // Rule 5: tso = ppo ∪ fenced ∪ rfe ∪ co ∪ fr
+    let tso = clause::union(order::clauses(sets, relations, fr));
     shown::acyclicity(tso, sets[base::EVENTS])
 }

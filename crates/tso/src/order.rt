@@ -87,11 +87,3 @@ pub fn clauses(sets: Sets, relations: Relations, fr: Grid) -> Clauses
         none,
     ]
 }
-
-// tso = ppo ∪ fenced ∪ rfe ∪ co ∪ fr
-pub fn tso(sets: Sets, relations: Relations, fr: Grid) -> Grid
-    ensures { λ r. ⌜ (let B : Base = baseOf sets relations in
-        edge fr ≡ eval nodes term.fr B → edge r ≡ eval nodes tso.tso B) ⌝ }
-{
-    clause::union(clauses(sets, relations, fr))
-}

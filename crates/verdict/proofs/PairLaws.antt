@@ -1,15 +1,15 @@
 -- Laws of `some` and of the first pair of a relation.
 use mathlib.Core.Path.{_≡_, refl, sym, ap, ap₂, _∙_, fun-ext}
-use mathlib.Core.Bool.{Bool, true, false, not, _&&_, _||_, false≢true}
+use mathlib.Core.Bool.{Bool, true, false, not, _&&_, _||_, false≢true, and-false, or-false, or-true}
 use Prim.Native.Nat.{ℕ, _+_, _<_, _≤_}
 use native.Mathlib.Omega.{arith}
 use borrow.Author.Tests.{lt-ltb}
 use lib.Dec.{eqb, ltb}
 use Rattle.relation.specs.Rel.{Set, Rel, Next, union, intersection, difference, either, inverse, identity, optional, some, image, least, nodes}
 use Rattle.relation.specs.Ring.{under}
-use Rattle.relation.proofs.Truth.{is-false}
-use Rattle.relation.proofs.SetLaws.{and-false, least-is, Seeking, seeking-first, seeking-next, seeking-none, seeking-found}
-use Rattle.relation.proofs.Meaning.{and-right, and-both, mem-below, below-mem, some-sound, some-complete}
+use Rattle.relation.proofs.Truth.{is-false, same-test, and-right, and-both}
+use Rattle.relation.proofs.SetLaws.{least-is, Seeking, seeking-first, seeking-next, seeking-none, seeking-found}
+use Rattle.relation.proofs.Meaning.{mem-below, below-mem, some-sound, some-complete}
 use Rattle.models.specs.Recording.{R, W}
 use Rattle.models.specs.Graph.{Base}
 use Rattle.models.specs.Rules.{unread, unordered}
@@ -27,55 +27,38 @@ some-below s h = some-complete nodes s (least 64 s) (mem-below 64 (least 64 s) h
 pub some-above : (s : Set) → 64 ≤ least 64 s → some nodes s ≡ false
 some-above s h = none-some s (λ x q. least-is 64 s .smaller x (omega arith))
 
--- Some event under 64 is some event.
-pub some-under : (s : Set) → some nodes (λ i. under 64 i && s i) ≡ some nodes s
-unfolding under
-some-under s = go (some nodes s) refl
-  where
-    go : (b : Bool) → some nodes s ≡ b → some nodes (λ i. ltb i 64 && s i) ≡ some nodes s
-    go true e =
-        let (x, m, h) = some-sound nodes s e in
-        some-complete nodes (λ i. ltb i 64 && s i) x m (and-both (ltb x 64) (s x) (lt-ltb x 64 (below-mem 64 x m)) h) ∙ sym e
-    go false e =
-        is-false (some nodes (λ i. ltb i 64 && s i))
-        (λ p. let (x, m, h) = some-sound nodes (λ i. ltb i 64 && s i) p in
-        false≢true (sym e ∙ some-complete nodes s x m (and-right (ltb x 64) (s x) h)))
-        ∙ sym e
+-- The image of all numbers below 64: where some event leads.
+image-all : (r : Rel) → image nodes (under 64) r ≡ (λ j. some nodes (λ i. r i j))
+unfolding image under
+image-all r =
+    fun-ext
+    (λ j. same-test _ _
+    (λ p. let (x, m, h) = some-sound nodes (λ i. ltb i 64 && r i j) p in some-complete nodes (λ i. r i j) x m (and-right (ltb x 64) (r x j) h))
+    (λ p. let (x, m, h) = some-sound nodes (λ i. r i j) p in
+    some-complete nodes (λ i. ltb i 64 && r i j) x m (and-both (ltb x 64) (r x j) (lt-ltb x 64 (below-mem 64 x m)) h)))
 
 -- The reads without rf.
-pub unread-is : (reads all seen out : Set) (rf : Rel) → all ≡ under 64 → seen ≡ image nodes all rf → out ≡ difference reads seen
+pub unread-is : {reads all seen out : Set} {rf : Rel} → all ≡ under 64 → seen ≡ image nodes all rf → out ≡ difference reads seen
     → (B : Base) → reads ≡ B .set R → rf ≡ B .rf → out ≡ unread nodes B
-unfolding unread difference image
-unread-is reads all seen out rf a s o B p q =
-    o ∙ fun-ext
-    (λ r. ap₂ (λ (x y : Bool). x && not y) (ap (λ (f : Set). f r) p)
-    (ap (λ (f : Set). f r) s ∙ ap (λ (f : Set). some nodes (λ i. f i && rf i r)) a ∙ some-under (λ w. rf w r)
-    ∙ ap (λ (f : Rel). some nodes (λ w. f w r)) q))
+unfolding unread difference
+unread-is a s o B p q = o ∙ ap₂ difference p (s ∙ ap₂ (image nodes) a q ∙ image-all (B .rf))
 
 -- What the search is for: b is a write of a's location that is not settled with a.
 unfoldable pub unsettled-of : Set → Rel → Rel → Rel
 unsettled-of writes loc settled a b = writes a && difference (intersection writes (loc a)) (settled a) b
 
-pub unordered-is : (writes : Set) (loc co back joined settled : Rel) → back ≡ inverse co → joined ≡ either co back → settled ≡ optional writes joined
+pub unordered-is : {writes : Set} {loc co back joined settled : Rel} → back ≡ inverse co → joined ≡ either co back → settled ≡ optional writes joined
     → (B : Base) → writes ≡ B .set W → loc ≡ B .loc → co ≡ B .co → unsettled-of writes loc settled ≡ unordered nodes B
 unfolding unsettled-of unordered difference intersection optional either union inverse identity
-unordered-is writes loc co back joined settled e f g B p q r =
+unordered-is {writes} {loc} {co} e f g B p q r =
     ap (unsettled-of writes loc) (g ∙ ap (optional writes) (f ∙ ap (either co) e))
-    ∙ fun-ext (λ a. fun-ext (λ b. same-test (writes a) (writes b) (loc a b) (eqb a b) (co a b) (co b a)))
+    ∙ fun-ext (λ a. fun-ext (λ b. same-pair (writes a) (writes b) (loc a b) (eqb a b) (co a b) (co b a)))
     ∙ (λ i a b. (p i a && p i b && q i a b) && not (eqb a b || r i a b || r i b a))
   where
-    same-test : (v w l e c d : Bool) → v && ((w && l) && not ((c || d) || (v && e))) ≡ (v && w && l) && not (e || c || d)
-    same-test false w l e c d = refl
-    same-test true w l true c d = after-or (w && l) (c || d)
-      where
-        after-or : (x y : Bool) → x && not (y || true) ≡ x && false
-        after-or x true = refl
-        after-or x false = refl
-    same-test true w l false c d = before-or (w && l) (c || d)
-      where
-        before-or : (x y : Bool) → x && not (y || false) ≡ x && not y
-        before-or x true = refl
-        before-or x false = refl
+    same-pair : (v w l e c d : Bool) → v && ((w && l) && not ((c || d) || (v && e))) ≡ (v && w && l) && not (e || c || d)
+    same-pair false w l e c d = refl
+    same-pair true w l true c d = ap (λ (x : Bool). (w && l) && not x) (or-true (c || d))
+    same-pair true w l false c d = ap (λ (x : Bool). (w && l) && not x) (or-false (c || d))
 
 -- The search goes through the writes a for one with an unsettled peer, and through the peers b of a for an unsettled one.
 module _ (writes : Set) (loc settled : Rel) where
@@ -131,17 +114,14 @@ unfolding difference
 ordered-peer peers ordered b e = ap (λ (x : Bool). peers b && not x) e ∙ and-false (peers b)
 
 -- The first pair by the set of events that r leads from.
-pub first-of : (r back : Rel) (all from : Set) (a : ℕ) → all ≡ under 64 → back ≡ inverse r → from ≡ image nodes all back → a ≡ least 64 from → a ≡ firstOf r
-unfolding firstOf image inverse
-first-of r back all from a p q s e =
-    e ∙ ap (least 64)
-    (s ∙ fun-ext
-    (λ j. ap (λ (f : Set). some nodes (λ i. f i && back i j)) p ∙ some-under (λ i. back i j) ∙ ap (λ (f : Rel). some nodes (λ i. f i j)) q))
+pub first-of : (r : Rel) {back : Rel} {all from : Set} {a : ℕ} → all ≡ under 64 → back ≡ inverse r → from ≡ image nodes all back → a ≡ least 64 from → a ≡ firstOf r
+unfolding firstOf inverse
+first-of r p q s e = e ∙ ap (least 64) (s ∙ ap₂ (image nodes) p q ∙ image-all (inverse r))
 
-pub first-none : (r : Rel) (a b : ℕ) → a ≡ firstOf r → 64 ≤ a → FirstPair r a b
-first-none r a b e h = record { first = e; second = λ q. absurd (omega arith) }
+pub first-none : {r : Rel} {a b : ℕ} → a ≡ firstOf r → 64 ≤ a → FirstPair r a b
+first-none e h = record { first = e; second = λ q. absurd (omega arith) }
 
-pub first-pair : (r : Rel) (s : Set) (a b : ℕ) → a ≡ firstOf r → s ≡ r a → b ≡ least 64 s → FirstPair r a b
+pub first-pair : {r : Rel} {s : Set} {a b : ℕ} → a ≡ firstOf r → s ≡ r a → b ≡ least 64 s → FirstPair r a b
 unfolding secondOf
-first-pair r s a b e p q =
+first-pair {r} e p q =
     record { first = e; second = λ h. q ∙ ap (least 64) (p ∙ ap r e) }

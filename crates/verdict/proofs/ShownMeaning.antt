@@ -18,7 +18,6 @@ use Rattle.models.specs.Graph.{Base, graph, base, Within}
 use Rattle.models.specs.Term.{Term, eval}
 use Rattle.models.specs.Rules as models
 use Rattle.models.specs.Rules.{Model, broken-pair, anywhere, unread, unordered, failures, verdict}
-use Rattle.models.proofs.Tests.{listed-below}
 use Rattle.models.proofs.Agree.{tests, agrees, recording-verdict, recording-allowed}
 use Rattle.verdict.specs.declared.Verdict.{Verdict}
 use Rattle.verdict.specs.Answer.{answers}
@@ -75,7 +74,7 @@ module _ (M : Model) (B : Base) where
 -- The events of a recording are below 64, and every term relates events.
 module _ (r : Recording ℕ) (within : Within nodes r) where
   event-below : (e : ℕ) → T (event r e) → e < 64
-  event-below e h = listed-below 64 e (within .listed e h)
+  event-below e h = below-mem 64 e (within .listed e h)
 
   pub term-inside : (t : Term) → Inside (eval nodes t (base nodes r))
   unfolding base

@@ -36,67 +36,63 @@ module _ {B : Base} where
 
   -- The operators.
   module _ {t u : Term} {a b r : Rel} where
-    pub is-union : Is B t a → Is B u b → r ≡ either a b → Is B (t ∪ u) r
+    pub is-union : r ≡ either a b → Is B t a → Is B u b → Is B (t ∪ u) r
     unfolding eval
-    is-union p q e = given (e ∙ ap₂ either (p .is) (q .is))
+    is-union e p q = given (e ∙ ap₂ either (p .is) (q .is))
 
-    pub is-meet : Is B t a → Is B u b → r ≡ both a b → Is B (t ∩ u) r
+    pub is-meet : r ≡ both a b → Is B t a → Is B u b → Is B (t ∩ u) r
     unfolding eval
-    is-meet p q e = given (e ∙ ap₂ both (p .is) (q .is))
+    is-meet e p q = given (e ∙ ap₂ both (p .is) (q .is))
 
-    pub is-minus : Is B t a → Is B u b → r ≡ minus a b → Is B (t ∖ u) r
+    pub is-minus : r ≡ minus a b → Is B t a → Is B u b → Is B (t ∖ u) r
     unfolding eval
-    is-minus p q e = given (e ∙ ap₂ minus (p .is) (q .is))
+    is-minus e p q = given (e ∙ ap₂ minus (p .is) (q .is))
 
-    pub is-then : Is B t a → Is B u b → r ≡ compose nodes a b → Is B (t ⨾ u) r
+    pub is-then : r ≡ compose nodes a b → Is B t a → Is B u b → Is B (t ⨾ u) r
     unfolding eval
-    is-then p q e = given (e ∙ ap₂ (compose nodes) (p .is) (q .is))
+    is-then e p q = given (e ∙ ap₂ (compose nodes) (p .is) (q .is))
 
   module _ {t : Term} {a r : Rel} where
-    pub is-inverse : Is B t a → r ≡ inverse a → Is B (t ⁻¹) r
+    pub is-inverse : r ≡ inverse a → Is B t a → Is B (t ⁻¹) r
     unfolding eval
-    is-inverse p e = given (e ∙ ap inverse (p .is))
+    is-inverse e p = given (e ∙ ap inverse (p .is))
 
-    pub is-plus : Is B t a → r ≡ plus nodes a → Is B (t ⁺) r
+    pub is-plus : r ≡ plus nodes a → Is B t a → Is B (t ⁺) r
     unfolding eval
-    is-plus p e = given (e ∙ ap (plus nodes) (p .is))
+    is-plus e p = given (e ∙ ap (plus nodes) (p .is))
 
-    pub is-opt : {s : Set} → s ≡ B .E → Is B t a → r ≡ optional s a → Is B (opt t) r
+    pub is-opt : {s : Set} → r ≡ optional s a → s ≡ B .E → Is B t a → Is B (opt t) r
     unfolding eval
-    is-opt q p e = given (e ∙ ap₂ optional q (p .is))
+    is-opt e q p = given (e ∙ ap₂ optional q (p .is))
 
-    pub is-star : {s : Set} → s ≡ B .E → Is B t a → r ≡ star nodes s a → Is B (t *) r
+    pub is-star : {s : Set} → r ≡ star nodes s a → s ≡ B .E → Is B t a → Is B (t *) r
     unfolding eval star
-    is-star q p e = given (e ∙ ap₂ (star nodes) q (p .is))
+    is-star e q p = given (e ∙ ap₂ (star nodes) q (p .is))
 
   -- Terms that are the identity on a set: a set by its name, a codomain, a union.
-  pub is-set : {n : SetName} {s : Set} {r : Rel} → s ≡ B .set n → r ≡ identity s → Is B ⟨ n ⟩ r
+  pub is-set : {n : SetName} {s : Set} {r : Rel} → r ≡ identity s → s ≡ B .set n → Is B ⟨ n ⟩ r
   unfolding eval
-  is-set q e = given (e ∙ ap identity q)
+  is-set e q = given (e ∙ ap identity q)
 
-  pub is-codom : (t : Set) {u : Term} {c : Rel} {s : Set} → s ≡ B .E → Is B u c → t ≡ image nodes s c → Is B ⟨codom u ⟩ (identity t)
+  pub is-codom : (t : Set) {u : Term} {c : Rel} {s : Set} → t ≡ image nodes s c → s ≡ B .E → Is B u c → Is B ⟨codom u ⟩ (identity t)
   unfolding eval
-  is-codom t q w i = given (ap identity (i ∙ ap₂ (image nodes) q (w .is)))
+  is-codom t i q w = given (ap identity (i ∙ ap₂ (image nodes) q (w .is)))
 
-  pub is-join : (s v x : Set) {t u : Term} → Is B t (identity s) → Is B u (identity v) → x ≡ union s v → Is B (t ∪ u) (identity x)
-  is-join s v x p q e = is-union p q (ap identity e ∙ identity-union s v)
+  pub is-join : (s v x : Set) {t u : Term} → x ≡ union s v → Is B t (identity s) → Is B u (identity v) → Is B (t ∪ u) (identity x)
+  is-join s v x e p q = is-union (ap identity e ∙ identity-union s v) p q
 
   -- The identity on a row, before and after a relation.
   module _ (row : List ℕ) {t u : Term} {a r : Rel} where
-    pub is-before : Is B u (identity (bit row)) → Is B t a → r ≡ from (bit row) a → Is B (u ⨾ t) r
-    is-before q p e = is-then q p (e ∙ sym (from-set row a))
+    pub is-before : r ≡ from (bit row) a → Is B u (identity (bit row)) → Is B t a → Is B (u ⨾ t) r
+    is-before e q p = is-then (e ∙ sym (from-set row a)) q p
 
-    pub is-after : Is B u (identity (bit row)) → Is B t a → r ≡ into a (bit row) → Is B (t ⨾ u) r
-    is-after q p e = is-then p q (e ∙ sym (into-set row a))
-
-  module _ (row : List ℕ) {n : SetName} {t : Term} {a r : Rel} (q : bit row ≡ B .set n) where
-    pub is-from : Is B t a → r ≡ from (bit row) a → Is B (⟨ n ⟩ ⨾ t) r
-    is-from = is-before row (is-set q refl)
-
-    pub is-into : Is B t a → r ≡ into a (bit row) → Is B (t ⨾ ⟨ n ⟩) r
-    is-into = is-after row (is-set q refl)
+    pub is-after : r ≡ into a (bit row) → Is B t a → Is B u (identity (bit row)) → Is B (t ⨾ u) r
+    is-after e p q = is-then (e ∙ sym (into-set row a)) p q
 
   -- Terms in another order.
   pub is-assoc : {t u v : Term} {r : Rel} → Is B ((t ⨾ u) ⨾ v) r → Is B (t ⨾ u ⨾ v) r
   unfolding eval
   is-assoc p = given (p .is ∙ compose-assoc _ _ _)
+
+-- All of them: by these `search` finds how the calls of a function compute a term.
+pub ruleset terms = (given, is-union, is-meet, is-minus, is-then, is-inverse, is-plus, is-opt, is-star, is-set, is-codom, is-join, is-before, is-after, is-assoc)

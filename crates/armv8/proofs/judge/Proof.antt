@@ -1,28 +1,21 @@
 -- `judge` meets its contract: its relations are those of the model, rule by rule.
-use mathlib.Core.Path.{_≡_, refl}
+use mathlib.Core.Path.{refl}
 use Rattle.relation.specs.Rel.{nodes}
-use Rattle.relation.specs.Bits.{edge}
-use Rattle.models.specs.Graph.{Base}
-use Rattle.models.specs.Term.{eval, fr, frₑ}
-use Rattle.models.specs.Armv8.{ob}
+use Rattle.models.specs.Term.{eval, frₑ}
+use Rattle.models.specs.Armv8.{ob, obClauses}
+use Rattle.models.proofs.ClauseLaws.{ob-opened}
 use Rattle.verdict.specs.Base.{baseOf}
 use Rattle.verdict.specs.PerLocation.{TriedPerLocation}
 use Rattle.verdict.proofs.TermLaws.{holds, given, is-minus}
+use Rattle.clause.proofs.StepLaws.{held-union}
 use borrow.Author.Needs.{needs}
 use Rattle.armv8.proofs.judge.Statement.{statement}
 use Rattle.armv8.proofs.judge.Tie as tie
 
--- The base that the arguments hold.
-abbrev base : tie.After-fr → Base
-base c = (let start = c .before .before .before .before in baseOf (start .args .t1) (start .args .t2))
-
-fr-is : (c : tie.After-fr) → edge (c .fr .result) ≡ eval nodes fr (base c)
-unfolding baseOf
-fr-is c = c .fr .ensures (base c) refl refl
-
 -- Rules 1 to 4.
-tried-4 : (c : tie.After-tried) → TriedPerLocation ob (base (c .before)) (c .tried .result)
-tried-4 c = c .tried .ensures (fr-is (c .before)) ob
+tried-4 : (c : tie.After-tried) → let a = c .before .before .before .before .before .args in TriedPerLocation ob (baseOf (a .t1) (a .t2)) (c .tried .result)
+unfolding baseOf
+tried-4 c = c .tried .ensures (c .before .fr .ensures _ refl refl) ob
 
 returns : tie.Need-returns
 returns c = tried-4 (c .before .before) .broken (c .if1 .taken)
@@ -31,16 +24,19 @@ returns c = tried-4 (c .before .before) .broken (c .if1 .taken)
 returns-2 : tie.Need-returns-2
 unfolding eval baseOf
 returns-2 c =
-    let after-ob = c .before .before in
-    let after-minus2 = after-ob .before in
+    let after-union = c .before .before in
+    let after-clauses = after-union .before in
+    let after-minus2 = after-clauses .before in
     let else1 = after-minus2 .before .before in
     let tried = else1 .before .before in
-    let B = base (tried .before) in
-    let fre = holds B frₑ (is-minus (given (fr-is (tried .before))) (given refl) (after-minus2 .before .minus .ensures)) in
-    c .acyclicity .ensures _ B _ _ (tried-4 tried .holds (else1 .if1 .left)) (after-ob .ob .ensures fre (after-minus2 .minus2 .ensures)) refl
+    let a = tried .before .before .before .before .before .args in
+    let B = baseOf (a .t1) (a .t2) in
+    let fre = holds B frₑ (is-minus (after-minus2 .before .minus .ensures) (given (tried .before .fr .ensures B refl refl)) (given refl)) in
+    let held = after-clauses .clauses .ensures fre (after-minus2 .minus2 .ensures) in
+    c .acyclicity .ensures _ B _ _ (tried-4 tried .holds (else1 .if1 .left)) (held-union 14 obClauses B _ held ob (ob-opened nodes B) _ (after-union .union .ensures)) refl
 
 pub judge-spec : {M : Type 1} → statement M
 judge-spec =
     tie.close
     (tie.spec (λ c. search needs) (λ c. search needs) (λ c. search needs) (λ c κs. search needs) (λ c κs. search needs) returns (λ c κs. search needs)
-    (λ c κs. search needs) (λ c κs. search needs) (λ c. search needs) (λ c κs. search needs) returns-2)
+    (λ c κs. search needs) (λ c κs. search needs) (λ c κs. search needs) (λ c. search needs) (λ c κs. search needs) returns-2)

@@ -1,5 +1,5 @@
 -- `union` meets its contract: k of the clauses are joined.
-use Prim.Native.Nat.{_-_, _≤_}
+use Prim.Native.Nat.{_-_}
 use native.Mathlib.Omega.{arith}
 use lib.ListN.{length}
 use mathlib.Core.Path.{_≡_}
@@ -10,22 +10,22 @@ use Rattle.clause.proofs.union.Statement.{statement}
 use Rattle.clause.proofs.union.Tie as tie
 
 abbrev Inv-loop : tie.InvT-loop
-Inv-loop clauses r₀ k₀ r k = (k ≤ 14) × (length clauses ≡ 14) × Joined clauses k (edge r)
+Inv-loop clauses r₀ k₀ r k = (length clauses ≡ 14) × Joined clauses k (edge r)
 
 abbrev μ-loop : tie.MeasureT-loop
 μ-loop clauses r₀ k₀ r k = 14 - k
 
 loop-holds : tie.Need-loop-holds Inv-loop μ-loop
-loop-holds c = (search needs, search needs, joined-none _ _ (c .empty .ensures))
+loop-holds c = (search needs, joined-none _ _ (c .empty .ensures))
 
 loop-again : tie.Need-loop-again Inv-loop μ-loop
 loop-again c =
     let turn = c .before .before in
     let inv = turn .before .loop .inv in
-    (omega (arith, turn .loop-test .taken), inv .1, joined-more _ _ _ _ (omega (arith, inv .1, turn .loop-test .taken)) (inv .2) (c .or .ensures))
+    (inv .0, joined-more _ _ _ _ (omega (arith, inv .0, turn .loop-test .taken)) (inv .1) (c .or .ensures))
 
 returns : tie.Need-returns Inv-loop μ-loop
-returns c = (let inv = c .before .loop .inv in joined-all _ _ _ (omega (arith, inv .1, c .loop-test .left)) (inv .2))
+returns c = (let inv = c .before .loop .inv in joined-all _ _ _ (omega (arith, inv .0, c .loop-test .left)) (inv .1))
 
 pub union-spec : {M : Type 1} → statement M
 union-spec =

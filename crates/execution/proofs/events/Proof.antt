@@ -8,15 +8,9 @@ use borrow.Author.Needs.{needs}
 use Rattle.execution.proofs.events.Statement.{statement}
 use Rattle.execution.proofs.events.Tie as tie
 
-initial-requires : tie.Need-initial-requires
-initial-requires c κs = search (needs, sized)
-
-recorded-requires : tie.Need-recorded-requires
-recorded-requires c κs = search (needs, sized)
-
 returns : tie.Need-returns
 unfolding event union decode
 returns c = c .or .ensures ∙ ap₂ union (c .before .before .initial .ensures) (c .before .recorded .ensures)
 
 pub events-spec : {M : Type 1} → statement M
-events-spec = tie.close (tie.spec initial-requires recorded-requires (λ c κs. search needs) returns)
+events-spec = tie.close (tie.spec (λ c κs. search (needs, sized)) (λ c κs. search (needs, sized)) (λ c κs. search needs) returns)

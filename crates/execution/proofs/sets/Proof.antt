@@ -9,15 +9,6 @@ use borrow.Author.Needs.{needs}
 use Rattle.execution.proofs.sets.Statement.{statement}
 use Rattle.execution.proofs.sets.Tie as tie
 
-initial-requires : tie.Need-initial-requires
-initial-requires c κs = search (needs, sized)
-
-recorded-requires : tie.Need-recorded-requires
-recorded-requires c κs = search (needs, sized)
-
-sorted-requires : tie.Need-sorted-requires
-sorted-requires c κs = search (needs, sized, all-recorded)
-
 sorted-requires-2 : tie.Need-sorted-requires-2
 sorted-requires-2 c κs =
     let classes = c .before in
@@ -89,8 +80,9 @@ returns c =
 pub sets-spec : {M : Type 1} → statement M
 sets-spec =
     tie.close
-    (tie.spec initial-requires recorded-requires sorted-requires (λ c. search needs) sorted-requires-2 (λ c. search needs) sorted-requires-3
-    (λ c. search needs) sorted-requires-4 (λ c. search needs) sorted-requires-5 (λ c. search needs) sorted-requires-6 (λ c. search needs)
-    (λ c. search needs) (λ c κs. search needs) (λ c κs. search needs) (λ c. search needs) (λ c. search needs) (λ c κs. search needs)
-    (λ c. search needs) (λ c. search needs) (λ c. search needs) (λ c. search needs) (λ c. search needs) (λ c. search needs) (λ c κs. search needs)
-    (λ c. search needs) (λ c κs. search needs) (λ c. search needs) (λ c. search needs) (λ c. search needs) (λ c. search needs) returns)
+    (tie.spec (λ c κs. search (needs, sized)) (λ c κs. search (needs, sized)) (λ c κs. search (needs, sized, all-recorded)) (λ c. search needs)
+    sorted-requires-2 (λ c. search needs) sorted-requires-3 (λ c. search needs) sorted-requires-4 (λ c. search needs) sorted-requires-5
+    (λ c. search needs) sorted-requires-6 (λ c. search needs) (λ c. search needs) (λ c κs. search needs) (λ c κs. search needs) (λ c. search needs)
+    (λ c. search needs) (λ c κs. search needs) (λ c. search needs) (λ c. search needs) (λ c. search needs) (λ c. search needs) (λ c. search needs)
+    (λ c. search needs) (λ c κs. search needs) (λ c. search needs) (λ c κs. search needs) (λ c. search needs) (λ c. search needs) (λ c. search needs)
+    (λ c. search needs) returns)

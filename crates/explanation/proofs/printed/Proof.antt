@@ -24,26 +24,21 @@ printed-source-requires c κs = loaded-side _ _ _ _ (c .before .before .before .
 
 returns-2 : tie.Need-returns-2
 returns-2 c =
-    let source = c .before in
-    (source-text _ _ _ _ (source .before .before .before .before .load .ensures) _ (source .before .before .answer .given .1) (source .if1 .taken) _ (c .printed-source .ensures .0), c .printed-source .ensures .1)
+    (source-text _ _ _ _ (printed-source-requires (c .before) (c .printed-source .lifetimes)) (c .printed-source .ensures .0), c .printed-source .ensures .1)
 
 loaded-requires : tie.Need-loaded-requires
 loaded-requires c κs =
     loaded-side _ _ _ _ (c .before .before .before .before .load .ensures) (c .before .before .answer .given .1) (c .if1 .left)
 
 explained-requires : tie.Need-explained-requires
-explained-requires c κs =
-    let v = c .before in
-    let chip = v .before in
-    (loaded-side _ _ _ _ (chip .before .before .before .before .load .ensures) (chip .before .before .answer .given .1) (chip .if1 .left), v .loaded .ensures)
+explained-requires c κs = (let v = c .before in (loaded-requires (v .before) (v .loaded .lifetimes), v .loaded .ensures))
 
 returns-3 : tie.Need-returns-3
 returns-3 c =
     let steps = c .before in
     let none = steps .before in
-    let v = none .before in
-    let chip = v .before in (
-      chip-text _ _ _ _ (chip .before .before .before .before .load .ensures) _ (chip .before .before .answer .given .1) (chip .if1 .left) _
+    let v = none .before in (
+      chip-text _ _ _ _ (loaded-requires (v .before) (v .loaded .lifetimes))
           (record {
             verdict = _;
             judged = v .loaded .ensures;

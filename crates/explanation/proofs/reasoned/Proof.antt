@@ -5,7 +5,8 @@ use native.Mathlib.Omega.{arith}
 use lib.ListN.{take}
 use Rattle.models.specs.Why.{clausesOf}
 use Rattle.lines.specs.Lines.{modelWord}
-use Rattle.explanation.specs.StepLine.{stepLines, clausesFor}
+use Rattle.verdicts.specs.ByModel.{clausesFor}
+use Rattle.explanation.specs.StepLine.{stepLines}
 use Rattle.explanation.proofs.WhyLaws.{written, behind-line}
 use borrow.Author.Needs.{needs}
 use Rattle.explanation.proofs.reasoned.Statement.{statement}

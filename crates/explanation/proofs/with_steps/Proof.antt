@@ -5,7 +5,8 @@ use native.Mathlib.Omega.{arith}
 use lib.ListN.{length}
 use Rattle.models.specs.Why.{clausesOf}
 use Rattle.lines.specs.Lines.{modelWord}
-use Rattle.explanation.specs.StepLine.{stepLine, clausesFor}
+use Rattle.verdicts.specs.ByModel.{clausesFor}
+use Rattle.explanation.specs.StepLine.{stepLine}
 use Rattle.explanation.proofs.WhyLaws.{Lined, lined-none, lined-more, lined-all}
 use borrow.Author.Needs.{needs}
 use Rattle.explanation.proofs.with_steps.Statement.{statement}

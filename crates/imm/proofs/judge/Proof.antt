@@ -6,11 +6,13 @@ use Rattle.relation.proofs.GridLaws.{returning-by}
 use Rattle.relation.proofs.Walks.{Inside, edge-inside}
 use Rattle.models.specs.Graph.{Base}
 use Rattle.models.specs.Term.{eval, fr, frₑ}
-use Rattle.models.specs.Imm.{hb, eco}
+use Rattle.models.specs.Imm.{hb, eco, ar, arClauses}
 use Rattle.models.specs.Rules.{IMM}
+use Rattle.models.proofs.ClauseLaws.{ar-opened}
 use Rattle.verdict.specs.Base.{baseOf}
 use Rattle.verdict.specs.Shown.{Hold, Tried}
 use Rattle.verdict.proofs.TermLaws.{holds, given, is-minus, is-then, is-opt, is-plus}
+use Rattle.clause.proofs.StepLaws.{held-union}
 use Rattle.imm.specs.Judged.{apart, steps, closing}
 use Rattle.imm.proofs.Around.{apart-is, around}
 use borrow.Author.Needs.{needs}
@@ -56,7 +58,7 @@ inside c = subst Inside (steps-is c) (edge-inside _ (search needs))
 
 hb-is : (c : tie.After-closure) → edge (c .closure .result) ≡ eval nodes hb (base (from-steps (c .before)))
 unfolding steps
-hb-is c = holds (base (from-steps (c .before))) hb (is-plus (given (steps-is (c .before))) (c .closure .ensures))
+hb-is c = holds (base (from-steps (c .before))) hb (is-plus (c .closure .ensures) (given (steps-is (c .before))))
 
 eco-is : (c : tie.After-eco) → edge (c .eco .result) ≡ eval nodes eco (base (from-eco c))
 unfolding baseOf
@@ -73,7 +75,7 @@ returning-is c =
     ∙ returning-by _ _ _ (c .before .inverse .ensures)
     ∙ ap diagonal
     (holds (base (from-eco after-eco)) (IMM .coherent)
-    (is-then (given (hb-is (after-eco .before .before))) (is-opt refl (given (eco-is after-eco)) (c .before .before .optional .ensures)) refl))
+    (is-then refl (given (hb-is (after-eco .before .before))) (is-opt (c .before .before .optional .ensures) refl (given (eco-is after-eco)))))
 
 closing-is : (c : tie.After-or) → edge (c .or .result) ≡ closing (base (from-eco (c .before .before .before .before .before .before .before .before)))
 unfolding closing
@@ -97,18 +99,21 @@ tried-4 c =
     let else2 = after-coe .before in
     let after-fr = to-eco (to-coherence c) .before .before .before .before in
     let B = base (from-fr after-fr) in
-    let fre = holds B frₑ (is-minus (given (fr-is after-fr)) (given refl) (c .before .minus4 .ensures)) in
+    let fre = holds B frₑ (is-minus (c .before .minus4 .ensures) (given (fr-is after-fr)) (given refl)) in
     c .atomicity .ensures IMM B (steps B) (closing B) (tried-3 (to-coherence c) .holds (else2 .if2 .left)) refl fre (after-coe .minus3 .ensures)
 
 -- Rule 5.
-ar-is : (c : tie.After-ar) → edge (c .ar .result) ≡ eval nodes (IMM .order) (base (from-eco (to-eco (to-coherence (c .before .before .before)))))
+ar-is : (c : tie.After-union) → edge (c .union .result) ≡ eval nodes (IMM .order) (base (from-eco (to-eco (to-coherence (c .before .before .before .before)))))
 unfolding eval baseOf
 ar-is c =
-    let after-atomicity = c .before .before .before in
+    let after-clauses = c .before in
+    let after-atomicity = after-clauses .before .before .before in
     let after-eco = to-eco (to-coherence after-atomicity) in
     let after-rfi = after-eco .before .before .before .before .before in
-    c .ar .ensures (after-rfi .before .before .and .ensures) (after-rfi .before .minus .ensures) (after-rfi .and2 .ensures)
-    (after-atomicity .before .before .before .minus3 .ensures) (hb-is (after-eco .before .before)) (eco-is after-eco)
+    let B = base (from-eco after-eco) in
+    let held = after-clauses .clauses .ensures (after-rfi .before .before .and .ensures) (after-rfi .before .minus .ensures) (after-rfi .and2 .ensures)
+    (after-atomicity .before .before .before .minus3 .ensures) (hb-is (after-eco .before .before)) (eco-is after-eco) in
+    held-union 14 arClauses B _ held ar (ar-opened nodes B) _ (c .union .ensures)
 
 returns : tie.Need-returns
 returns c =
@@ -123,11 +128,11 @@ returns-3 c = tried-4 (c .before .before) .broken (c .if3 .taken)
 returns-4 : tie.Need-returns-4
 unfolding baseOf
 returns-4 c =
-    let after-ar = c .before .before in
-    let else3 = after-ar .before in
+    let after-union = c .before .before in
+    let else3 = after-union .before .before in
     let after-atomicity = else3 .before .before in
     let B = base (from-eco (to-eco (to-coherence after-atomicity))) in
-    c .acyclicity .ensures IMM B (steps B) (closing B) (tried-4 after-atomicity .holds (else3 .if3 .left)) (ar-is after-ar) refl
+    c .acyclicity .ensures IMM B (steps B) (closing B) (tried-4 after-atomicity .holds (else3 .if3 .left)) (ar-is after-union) refl
 
 pub judge-spec : {M : Type 1} → statement M
 judge-spec =
@@ -136,4 +141,4 @@ judge-spec =
     (λ c κs. search needs) (λ c κs. search needs) (λ c κs. search needs) (λ c κs. search needs) (λ c κs. search needs) (λ c. search needs)
     (λ c κs. search needs) (λ c. search needs) (λ c κs. search needs) (λ c κs. search needs) (λ c κs. search needs) (λ c κs. search needs)
     (λ c κs. search needs) (λ c κs. search needs) (λ c κs. search needs) (λ c κs. search needs) returns-2 (λ c κs. search needs) (λ c. search needs)
-    (λ c κs. search needs) (λ c κs. search needs) returns-3 (λ c κs. search needs) (λ c. search needs) (λ c κs. search needs) returns-4)
+    (λ c κs. search needs) (λ c κs. search needs) returns-3 (λ c κs. search needs) (λ c κs. search needs) (λ c. search needs) (λ c κs. search needs) returns-4)

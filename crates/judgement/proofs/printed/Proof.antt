@@ -28,12 +28,11 @@ returns-2 c =
     let after-single = after-line3 .before in
     let after-line2 = after-single .before in
     let v = after-line2 .before in
-    let source = v .before in
     let (on, (on-chip, (on-tso, (sound, tso-sound)))) = v .of-source .ensures in
     let first = after-single .single2 .ensures in
     let second = after-added .added .ensures in
     let third = c .added2 .ensures in (
-      source-text _ _ _ _ (source .before .before .before .before .load .ensures) _ (source .before .before .answer .given .1) (source .if1 .taken) _
+      source-text _ _ _ _ (of-source-requires (v .before) (v .of-source .lifetimes))
           (record {
             on-source = _;
             on-chip = _;
@@ -54,9 +53,8 @@ loaded-requires c κs =
 
 returns-3 : tie.Need-returns-3
 returns-3 c =
-    let v = c .before .before in
-    let chip = v .before in (
-      chip-text _ _ _ _ (chip .before .before .before .before .load .ensures) _ (chip .before .before .answer .given .1) (chip .if1 .left) _
+    let v = c .before .before in (
+      chip-text _ _ _ _ (loaded-requires (v .before) (v .loaded .lifetimes))
           (record { on-chip = _; judged-chip = v .loaded .ensures; prints = c .single3 .ensures .0 ∙ c .before .line5 .ensures .0 }),
       omega (arith, c .single3 .ensures .1),
     )

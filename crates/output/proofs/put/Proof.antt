@@ -16,17 +16,8 @@ abbrev μ-loop : tie.MeasureT-loop
 loop-holds : tie.Need-loop-holds Inv-loop μ-loop
 loop-holds c = (search needs, putting-none _ _ _ (c .pre))
 
-add-out : tie.Need-add-out Inv-loop μ-loop
-add-out c = (let inv = c .before .before .loop .inv in omega (arith, inv .1 .room, inv .1 .long))
-
-slice-write-out : tie.Need-slice-write-out Inv-loop μ-loop
-slice-write-out c = (let inv = c .before .before .loop .inv in omega (arith, inv .1 .room, inv .1 .long))
-
 loop-again : tie.Need-loop-again Inv-loop μ-loop
 loop-again c = (let turn = c .before in (search needs, putting-more _ _ _ _ _ (turn .before .loop .inv .1) (turn .loop-test .taken)))
-
-same-length : tie.Need-same-length Inv-loop μ-loop
-same-length c = c .before .loop .inv .1 .long
 
 returns : tie.Need-returns Inv-loop μ-loop
 returns c = putting-all _ _ _ _ _ (c .before .loop .inv .1) (omega arith)
@@ -34,5 +25,5 @@ returns c = putting-all _ _ _ _ _ (c .before .loop .inv .1) (omega arith)
 pub put-spec : {M : Type 1} → statement M
 put-spec =
     tie.close
-    (tie.spec Inv-loop μ-loop loop-holds (λ c. search needs) add-out slice-write-out (λ c. search needs) (λ c. search needs) loop-again same-length
-    returns)
+    (tie.spec Inv-loop μ-loop loop-holds (λ c. search needs) (λ c. search needs) (λ c. search needs) (λ c. search needs) (λ c. search needs)
+    loop-again (λ c. search needs) returns)

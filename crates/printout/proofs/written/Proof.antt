@@ -11,18 +11,6 @@ returns c = (let counted = c .before in page-short _ _ _ (counted .before .befor
 line-requires : tie.Need-line-requires
 line-requires c κs = (let pre = c .before .before .before .before .before .before .before .pre in (sized _ pre, threads-sound _ pre))
 
-lines-requires : tie.Need-lines-requires
-lines-requires c κs =
-    let at = c .before .before in
-    let starts = at .before in
-    let room = starts .before .before in
-    let counted = room .before in (
-      counted .before .before .before .before .pre,
-      record { len = _; line = at .line .ensures; begins = starts .starts .ensures },
-      counted .longest .ensures .1,
-      room .if1 .left,
-    )
-
 returns-2 : tie.Need-returns-2
 returns-2 c =
     let starts = c .before .before .before .before .before .before in
@@ -34,5 +22,5 @@ returns-2 c =
 pub written-spec : {M : Type 1} → statement M
 written-spec =
     tie.close
-    (tie.spec (λ c κs. search needs) (λ c. search needs) returns (λ c κs. search needs) (λ c κs. search needs) line-requires lines-requires
+    (tie.spec (λ c κs. search needs) (λ c. search needs) returns (λ c κs. search needs) (λ c κs. search needs) line-requires (λ c κs. search needs)
     (λ c. search needs) returns-2)

@@ -1,11 +1,11 @@
 -- `reported` meets its contract: a refusal's number, or the events are stored.
-use mathlib.Core.Path.{_≡_, sym, ap, _∙_}
+use mathlib.Core.Path.{sym, ap, _∙_}
 use mathlib.Core.List.{List}
 use Prim.Native.Nat.{ℕ}
 use native.Mathlib.Omega.{arith}
-use lib.ListN.{length, getD}
-use lib.Seq.{length-take-le}
+use lib.ListN.{getD}
 use Rattle.output.proofs.FillLaws.{fills-refused, fills-none, fills-wrote}
+use Rattle.judgement.proofs.TextLaws.{within, first-size}
 use Rattle.probe.specs.Calls.{codedAnswer}
 use Rattle.probe.proofs.ProbeLaws.{stored}
 use borrow.Author.Needs.{needs}
@@ -16,17 +16,10 @@ returns : tie.Need-returns
 unfolding codedAnswer
 returns c = stored _ _ _ _ _ _ _ (fills-refused _ _ _ _ (ap (λ (l : List ℕ). getD l 0 0) (c .before .before .numbers .ensures)) (c .before .if1 .taken)) (c .coded .ensures)
 
-array-share-prefix-at : tie.Need-array-share-prefix-at
-array-share-prefix-at c = (let t = c .before .before .before .before .before in let long : length (t .args .v .at) ≡ 64 = search needs in omega (arith, long, t .pre))
-
-slice-aggregate-fill : tie.Need-slice-aggregate-fill
-slice-aggregate-fill c = (let t = c .before .before .before .before .before .before in let long : length (t .args .v .at) ≡ 64 = search needs in sym (length-take-le _ _ (omega (arith, long, t .pre))))
-
 answered-requires : tie.Need-answered-requires
 answered-requires c κs n q =
     let t = c .before .before .before .before .before .before .before .before .before in
-    let long : length (t .args .v .at) ≡ 64 = search needs in
-    omega (arith, fills-wrote _ _ _ _ _ (c .before .before .fill .ensures) n q .size, length-take-le (t .args .v .len) (t .args .v .at) (omega (arith, long, t .pre)), t .pre)
+    omega (arith, fills-wrote _ _ _ _ _ (c .before .before .fill .ensures) n q .size, first-size (t .args .v .at) (t .pre) (search needs), t .pre)
 
 returns-2 : tie.Need-returns-2
 returns-2 c =
@@ -39,5 +32,7 @@ returns-2 c =
 pub reported-spec : {M : Type 1} → statement M
 reported-spec =
     tie.close
-    (tie.spec (λ c κs. search needs) (λ c. search needs) (λ c. search needs) (λ c κs. search needs) returns (λ c. search needs) array-share-prefix-at
-    slice-aggregate-fill (λ c κs. search needs) answered-requires (λ c. search needs) returns-2)
+    (tie.spec (λ c κs. search needs) (λ c. search needs) (λ c. search needs) (λ c κs. search needs) returns (λ c. search needs)
+    (λ c. let t = c .before .before .before .before .before in within (t .args .v .at) (t .pre) (search needs))
+    (λ c. first-size _ (c .before .before .before .before .before .before .pre) (search needs)) (λ c κs. search needs) answered-requires
+    (λ c. search needs) returns-2)

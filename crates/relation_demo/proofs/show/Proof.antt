@@ -5,10 +5,10 @@ use Rattle.relation_demo.proofs.show.Statement.{statement}
 use Rattle.relation_demo.proofs.show.Tie as tie
 
 abbrev Inv-loop : tie.InvT-loop
-Inv-loop len at k₀ t5 t6 k = (k ≤ len) × (len ≤ 64)
+Inv-loop at len k₀ t5 t6 k = (k ≤ len) × (len ≤ 64)
 
 abbrev μ-loop : tie.MeasureT-loop
-μ-loop len at k₀ t5 t6 k = len - k
+μ-loop at len k₀ t5 t6 k = len - k
 
 pub show-spec : {M : Type 1} → statement M
 show-spec =

@@ -12,9 +12,5 @@ returns c = fills-refused _ _ _ _ (c .before .cause .ensures) (c .if1 .taken)
 written-requires : tie.Need-written-requires
 written-requires c κs = cause-goes-on _ _ (sym (c .before .before .cause .ensures) ∙ c .before .if1 .left)
 
-returns-2 : tie.Need-returns-2
-returns-2 c = c .before .before .written .ensures
-
 pub translate-spec : {M : Type 1} → statement M
-translate-spec =
-    tie.close (tie.spec (λ c κs. search needs) returns written-requires (λ c. search needs) returns-2)
+translate-spec = tie.close (tie.spec (λ c κs. search needs) returns written-requires (λ c. search needs) (λ c. search needs))

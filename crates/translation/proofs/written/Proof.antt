@@ -9,15 +9,6 @@ use borrow.Author.Needs.{needs}
 use Rattle.translation.proofs.written.Statement.{statement}
 use Rattle.translation.proofs.written.Tie as tie
 
-ctrl-requires : tie.Need-ctrl-requires
-ctrl-requires c κs = c .before .before .pre
-
-new-events-requires : tie.Need-new-events-requires
-new-events-requires c κs = c .before .before .before .pre
-
-ends-requires : tie.Need-ends-requires
-ends-requires c κs = (record { source = c .before .before .before .before .pre; grid = c .before .ctrl .ensures }, c .new-events .ensures .0)
-
 mul-length : tie.Need-mul-length
 mul-length c = (let few = ends-few _ _ (c .before .before .before .before .before .pre) _ (c .before .new-events .result) (c .ends .ensures) (omega arith) in omega (arith, few))
 
@@ -75,6 +66,6 @@ returns-2 c =
 pub written-spec : {M : Type 1} → statement M
 written-spec =
     tie.close
-    (tie.spec ctrl-requires new-events-requires ends-requires (λ c. search needs) (λ c. search needs) (λ c. search needs) (λ c. search needs)
-    mul-length add-length returns header-requires (λ c. search needs) (λ c κs. search needs) write-events-requires (λ c. search needs)
-    (λ c. search needs) (λ c. search needs) write-links-requires (λ c. search needs) returns-2)
+    (tie.spec (λ c κs. search needs) (λ c κs. search needs) (λ c κs. search needs) (λ c. search needs) (λ c. search needs) (λ c. search needs)
+    (λ c. search needs) mul-length add-length returns header-requires (λ c. search needs) (λ c κs. search needs) write-events-requires
+    (λ c. search needs) (λ c. search needs) (λ c. search needs) write-links-requires (λ c. search needs) returns-2)

@@ -5,7 +5,7 @@ use Rattle.models.specs.Recording.{W, Wstrong}
 use Rattle.models.specs.Term.{eval, po, ⟨_⟩, _⨾_}
 use Rattle.models.specs.Imm.{bobClauses}
 use Rattle.verdict.specs.Base.{baseOf}
-use Rattle.verdict.proofs.TermLaws.{holds, given, is-from, is-into}
+use Rattle.verdict.proofs.TermLaws.{holds, given, is-set, is-before, is-after}
 use Rattle.clause.proofs.StepLaws.{held-at}
 use borrow.Author.Needs.{needs}
 use Rattle.imm.proofs.ar.clauses.Statement.{statement}
@@ -28,7 +28,7 @@ returns c =
     let ppo = after-ppo .ppo .ensures B refl refl i (after-deps .deps .ensures) in
     let detour = after-detour .detour .ensures B refl x k in
     let psc = after-psc .psc .ensures B refl h e in
-    let strong = holds B (⟨ Wstrong ⟩ ⨾ po ⨾ ⟨ W ⟩) (is-from _ refl (is-into _ refl (given refl) (after-into .into .ensures)) (after-from .from .ensures)) in
+    let strong = holds B (⟨ Wstrong ⟩ ⨾ po ⨾ ⟨ W ⟩) (is-before _ (after-from .from .ensures) (is-set refl refl) (is-after _ (after-into .into .ensures) (given refl) (is-set refl refl))) in
     let none = after-empty .empty .ensures in
     record { clauses = λ n. x n ∷ b 0 n ∷ b 1 n ∷ b 2 n ∷ b 3 n ∷ b 4 n ∷ ppo n ∷ detour n ∷ psc n ∷ strong n ∷ none n ∷ none n ∷ none n ∷ none n ∷ [] }
 

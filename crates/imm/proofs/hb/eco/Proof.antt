@@ -18,8 +18,9 @@ returns c =
     let rest = edge (after-optional .optional .result) in
     let parted = c .before .then .ensures ∙ ap (λ (s : Rel). compose nodes s rest) (after-optional .before .or .ensures) ∙ either-compose (edge (a .co)) (edge (a .fr)) rest in
     holds B eco
-    (is-union (is-union (given f) (is-then (given k) (is-opt e (given f) (after-optional .optional .ensures)) refl) refl)
-    (is-then (given r) (is-opt e (given f) (after-optional .optional .ensures)) refl) (c .or2 .ensures ∙ ap (either (edge (a .rf))) parted ∙ sym (either-assoc _ _ _)))
+    (is-union (c .or2 .ensures ∙ ap (either (edge (a .rf))) parted ∙ sym (either-assoc _ _ _))
+    (is-union refl (given f) (is-then refl (given k) (is-opt (after-optional .optional .ensures) e (given f))))
+    (is-then refl (given r) (is-opt (after-optional .optional .ensures) e (given f))))
 
 pub eco-spec : {M : Type 1} → statement M
 eco-spec = tie.close (tie.spec (λ c κs. search needs) (λ c κs. search needs) (λ c κs. search needs) (λ c κs. search needs) returns)

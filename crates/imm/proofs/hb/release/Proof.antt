@@ -1,18 +1,14 @@
 -- `hb::release` meets its contract: its definition, call by call.
 use Rattle.models.specs.Term.{eval}
 use Rattle.models.specs.Imm.{release}
-use Rattle.verdict.proofs.TermLaws.{holds, given, is-union, is-then, is-set, is-from}
+use Rattle.verdict.proofs.TermLaws.{holds, terms}
 use borrow.Author.Needs.{needs}
 use Rattle.imm.proofs.hb.release.Statement.{statement}
 use Rattle.imm.proofs.hb.release.Tie as tie
 
 returns : tie.Need-returns
 unfolding eval
-returns c =
-    λ B w f p s. let after-from = c .before .before in
-    holds B release
-    (is-then (is-union (is-set w (after-from .before .identity .ensures)) (is-from _ f (given p) (after-from .from .ensures)) (c .before .or .ensures)) (given s)
-    (c .then .ensures))
+returns c = λ B w f p s. holds B release (search terms depth 12)
 
 pub release-spec : {M : Type 1} → statement M
 release-spec =

@@ -13,7 +13,7 @@ unfolding eval baseOf
 returns c =
     λ l x i. let sync = c .before .before in
     let a = sync .before .args in
-    holds (baseOf (a .sets) (a .t2)) (po ∪ sw) (is-union (given refl) (given (sync .synchronizes .ensures l x i)) (c .or .ensures))
+    holds (baseOf (a .sets) (a .t2)) (po ∪ sw) (is-union (c .or .ensures) (given refl) (given (sync .synchronizes .ensures l x i)))
 
 pub steps-spec : {M : Type 1} → statement M
 steps-spec = tie.close (tie.spec (λ c κs. search needs) (λ c. search needs) (λ c κs. search needs) returns)

@@ -24,7 +24,7 @@ returns c =
     let write = refl {a = B .co} in
     let from-read = after-fr .fr .ensures B refl refl in
     let write-read = after-then .then .ensures in
-    let from-read-read = holds B (fr ⨾ rf) (is-then (given from-read) (given refl) (c .before .then2 .ensures)) in
+    let from-read-read = holds B (fr ⨾ rf) (is-then (c .before .then2 .ensures) (given from-read) (given refl)) in
     let none = c .empty .ensures in
     record { clauses = λ n. po n ∷ sw n ∷ read n ∷ write n ∷ write-read n ∷ from-read n ∷ from-read-read n ∷ none n ∷ none n ∷ none n ∷ none n ∷ none n ∷ none n ∷ none n ∷ [] }
 

@@ -24,7 +24,7 @@ returns c =
     let i = after-rfi .and2 .ensures in
     let steps = after-hb .before .steps .ensures l x i in
     let eco = after-eco .eco .ensures B refl refl refl (after-fr .fr .ensures B refl refl) in
-    c .clauses .ensures l x i (c .before .minus2 .ensures) (holds B hb (is-plus (given steps) (after-hb .closure .ensures))) eco
+    c .clauses .ensures l x i (c .before .minus2 .ensures) (holds B hb (is-plus (after-hb .closure .ensures) (given steps))) eco
 
 pub order-spec : {M : Type 1} → statement M
 order-spec =

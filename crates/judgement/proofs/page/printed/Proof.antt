@@ -19,35 +19,23 @@ loaded-requires : tie.Need-loaded-requires
 loaded-requires c κs = loaded-side _ _ _ _ (c .before .before .before .before .load .ensures) (c .before .before .answer .given .1) (c .if1 .taken)
 
 starred-requires : tie.Need-starred-requires
-starred-requires c κs =
-    let source = c .before in
-    (loaded-side _ _ _ _ (source .before .before .before .before .load .ensures) (source .before .before .answer .given .1) (source .if1 .taken) .loads, c .loaded .ensures .shown .bound)
+starred-requires c κs = (loaded-requires (c .before) (c .loaded .lifetimes) .loads, c .loaded .ensures .shown .bound)
 
 returns-2 : tie.Need-returns-2
 returns-2 c =
     let v = c .before in
-    let source = v .before in (
-      source-text _ _ _ _ (source .before .before .before .before .load .ensures) _ (source .before .before .answer .given .1) (source .if1 .taken) _
-          (record { verdict = _; judged = v .loaded .ensures; prints = c .starred .ensures .0 }),
-      c .starred .ensures .1,
-    )
+    (source-text _ _ _ _ (loaded-requires (v .before) (v .loaded .lifetimes)) (record { verdict = _; judged = v .loaded .ensures; prints = c .starred .ensures .0 }), c .starred .ensures .1)
 
 loaded-requires-2 : tie.Need-loaded-requires-2
 loaded-requires-2 c κs = loaded-side _ _ _ _ (c .before .before .before .before .load .ensures) (c .before .before .answer .given .1) (c .if1 .left)
 
 starred-requires-2 : tie.Need-starred-requires-2
-starred-requires-2 c κs =
-    let chip = c .before in
-    (loaded-side _ _ _ _ (chip .before .before .before .before .load .ensures) (chip .before .before .answer .given .1) (chip .if1 .left) .loads, c .loaded2 .ensures .shown .bound)
+starred-requires-2 c κs = (loaded-requires-2 (c .before) (c .loaded2 .lifetimes) .loads, c .loaded2 .ensures .shown .bound)
 
 returns-3 : tie.Need-returns-3
 returns-3 c =
     let v = c .before in
-    let chip = v .before in (
-      chip-text _ _ _ _ (chip .before .before .before .before .load .ensures) _ (chip .before .before .answer .given .1) (chip .if1 .left) _
-          (record { verdict = _; judged = v .loaded2 .ensures; prints = c .starred2 .ensures .0 }),
-      c .starred2 .ensures .1,
-    )
+    (chip-text _ _ _ _ (loaded-requires-2 (v .before) (v .loaded2 .lifetimes)) (record { verdict = _; judged = v .loaded2 .ensures; prints = c .starred2 .ensures .0 }), c .starred2 .ensures .1)
 
 pub printed-spec : {M : Type 1} → statement M
 printed-spec =

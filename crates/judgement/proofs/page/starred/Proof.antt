@@ -1,18 +1,9 @@
 -- `page::starred` meets its contract: the array for the page is never too short.
-use mathlib.Core.Path.{_≡_, sym}
-use native.Mathlib.Omega.{arith}
-use lib.ListN.{length}
-use lib.Seq.{length-take-le}
+use Rattle.judgement.proofs.TextLaws.{within, first-size}
 use Rattle.judgement.proofs.PageLaws.{page-not-refused, page-begins}
 use borrow.Author.Needs.{needs}
 use Rattle.judgement.proofs.page.starred.Statement.{statement}
 use Rattle.judgement.proofs.page.starred.Tie as tie
-
-array-share-prefix-ring : tie.Need-array-share-prefix-ring
-array-share-prefix-ring c = (let t = c .before .before .before in let long : length (t .args .v .at) ≡ 64 = search needs in omega (arith, long, c .ring-length .ensures .1))
-
-slice-aggregate-written : tie.Need-slice-aggregate-written
-slice-aggregate-written c = (let t = c .before .before .before .before in let long : length (t .args .v .at) ≡ 64 = search needs in sym (length-take-le _ _ (omega (arith, long, c .before .ring-length .ensures .1))))
 
 returns : tie.Need-returns
 returns c =
@@ -29,5 +20,6 @@ returns-2 c =
 pub starred-spec : {M : Type 1} → statement M
 starred-spec =
     tie.close
-    (tie.spec (λ c κs. search needs) array-share-prefix-ring slice-aggregate-written (λ c. search needs) (λ c κs. search needs) (λ c. search needs)
+    (tie.spec (λ c κs. search needs) (λ c. within (c .before .before .before .args .v .at) (c .ring-length .ensures .1) (search needs))
+    (λ c. first-size _ (c .before .ring-length .ensures .1) (search needs)) (λ c. search needs) (λ c κs. search needs) (λ c. search needs)
     (λ c. search needs) returns returns-2)

@@ -1,35 +1,38 @@
--- `chain::all_marked` meets its contract.
-use mathlib.Core.Path.{_≡_, refl, sym, ap, _∙_}
-use mathlib.Core.Bool.{true}
+-- `chain::all_marked` meets its contract, number by number.
+use mathlib.Core.Path.{refl, ap}
+use mathlib.Core.Bool.{not}
 use mathlib.Core.List.{List}
-use Prim.Native.Nat.{ℕ, _-_, _≤_, _<_}
+use Prim.Native.Nat.{ℕ, _-_, _<_}
 use native.Mathlib.Omega.{arith}
-use Rattle.layout.specs.Chains.{each, allMet, Marked}
-use Rattle.layout.proofs.ChainLaws.{each-more, each-fails, marked-is, marked-not}
+use borrow.Author.Tests.{eq-eqb, ne-eqb}
+use Rattle.layout.specs.Chains.{among, Marked}
+use Rattle.layout.proofs.EachLaws.{Passed, passed-none, passed-more, passed-fails, passed-all}
 use borrow.Author.Needs.{needs}
 use Rattle.layout.proofs.chain.all_marked.Statement.{statement}
 use Rattle.layout.proofs.chain.all_marked.Tie as tie
 
 abbrev Inv-loop : tie.InvT-loop
-Inv-loop limit marks x₀ x = (x ≤ limit) × (limit < 256) × ((l : List ℕ) → Marked l marks → allMet x l ≡ true)
+Inv-loop limit marks x₀ x = (limit < 256) × ((l : List ℕ) → Marked l marks → Passed limit limit x (λ y. among y l))
 
 abbrev μ-loop : tie.MeasureT-loop
 μ-loop limit marks x₀ x = limit - x
 
 loop-holds : tie.Need-loop-holds Inv-loop μ-loop
-unfolding each
-loop-holds c = (search needs, search needs, λ l w. refl)
+loop-holds c = (search needs, λ l w. passed-none _ refl)
 
 returns : tie.Need-returns Inv-loop μ-loop
-returns c = λ l w. sym (each-fails _ _ _ (c .before .loop-test .taken) (marked-not l _ _ (omega arith) w (c .if1 .taken)))
+returns c =
+    let turn = c .before in
+    λ l w. passed-fails (turn .before .loop .inv .1 l w) (turn .loop-test .taken) (w .each _ (omega arith)) (ap not (ne-eqb _ _ (c .if1 .taken)))
 
 loop-again : tie.Need-loop-again Inv-loop μ-loop
 loop-again c =
-    let inv = c .before .before .loop .inv in
-    (omega arith, inv .1, λ l w. each-more _ _ (inv .2 l w) (marked-is l _ _ (omega arith) w (c .if1 .left)))
+    let turn = c .before in
+    let inv = turn .before .loop .inv in
+    (inv .0, λ l w. passed-more (inv .1 l w) (turn .loop-test .taken) (w .each _ (omega arith)) (ap not (eq-eqb _ _ (c .if1 .left))))
 
 returns-2 : tie.Need-returns-2 Inv-loop μ-loop
-returns-2 c = λ l w. sym (ap (λ (n : ℕ). allMet n l) (omega arith) ∙ c .before .loop .inv .2 l w)
+returns-2 c = λ l w. passed-all (c .before .loop .inv .1 l w) (c .loop-test .left)
 
 pub all-marked-spec : {M : Type 1} → statement M
 all-marked-spec =

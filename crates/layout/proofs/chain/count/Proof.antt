@@ -16,7 +16,7 @@ loop-holds : tie.Need-loop-holds Inv-loop μ-loop
 loop-holds c = (c .before .pre, count-begin _ _ _)
 
 returns : tie.Need-returns Inv-loop μ-loop
-returns c = count-end _ _ _ _ _ (c .before .before .loop .inv .1) (c .if1 .taken)
+returns c = count-end (c .before .before .loop .inv .1) (c .if1 .taken)
 
 add-n : tie.Need-add-n Inv-loop μ-loop
 add-n c = omega (arith, c .before .loop-test .taken, c .before .before .loop .inv .0 .small)
@@ -24,7 +24,7 @@ add-n c = omega (arith, c .before .loop-test .taken, c .before .before .loop .in
 returns-2 : tie.Need-returns-2 Inv-loop μ-loop
 returns-2 c =
     let at-loop = c .before .before .before in
-    count-over _ _ _ _ _ (at-loop .loop .inv .1) (c .before .before .loop-test .taken) (c .before .if1 .left) (c .if2 .taken)
+    count-over (at-loop .loop .inv .1) (c .before .before .loop-test .taken) (c .before .if1 .left) (c .if2 .taken)
 
 moved-requires : tie.Need-moved-requires Inv-loop μ-loop
 moved-requires c κs =
@@ -38,10 +38,10 @@ loop-again : tie.Need-loop-again Inv-loop μ-loop
 loop-again c =
     let at-loop = c .before .before .before .before in
     let inv = at-loop .loop .inv in
-    (inv .0, count-on _ _ _ _ _ (inv .1) _ (c .before .before .before .loop-test .taken) (c .before .before .if1 .left) (c .before .if2 .left) (c .moved .ensures .0))
+    (inv .0, count-on (inv .1) _ (c .before .before .before .loop-test .taken) (c .before .before .if1 .left) (c .before .if2 .left) (c .moved .ensures .0))
 
 returns-3 : tie.Need-returns-3 Inv-loop μ-loop
-returns-3 c = count-done _ _ _ _ _ (c .before .loop .inv .1) (c .loop-test .left)
+returns-3 c = count-done (c .before .loop .inv .1) (c .loop-test .left)
 
 pub count-spec : {M : Type 1} → statement M
 count-spec = tie.close (tie.spec Inv-loop μ-loop loop-holds returns add-n returns-2 moved-requires loop-less loop-again returns-3)

@@ -29,13 +29,13 @@ follow-requires c κs =
 returns : tie.Need-returns Inv-loop μ-loop
 returns c =
     let turn = c .before .before .before .before in
-    walked-fails _ _ _ _ _ _ _ _ _ (turn .start .ensures .0) (turn .before .loop-test .taken) (turn .before .before .loop .inv .2) (c .before .before .follow .ensures) (not-true _ (c .if1 .taken))
+    walked-fails (turn .start .ensures .0) (turn .before .before .loop .inv .2) (c .before .before .follow .ensures) (turn .before .loop-test .taken) (not-true _ (c .if1 .taken))
 
 loop-again : tie.Need-loop-again Inv-loop μ-loop
 loop-again c =
     let turn = c .before .before .before .before in
     let inv = turn .before .before .loop .inv in
-    (search needs, inv .1, walked-more _ _ _ _ _ _ _ _ (turn .start .ensures .0) (inv .2) (c .before .before .follow .ensures) (not-false _ (c .if1 .left)))
+    (search needs, inv .1, walked-more (turn .start .ensures .0) (inv .2) (c .before .before .follow .ensures) (not-false _ (c .if1 .left)))
 
 all-marked-requires : tie.Need-all-marked-requires Inv-loop μ-loop
 all-marked-requires c κs = c .before .loop .inv .1 .small
@@ -43,7 +43,7 @@ all-marked-requires c κs = c .before .loop .inv .1 .small
 returns-2 : tie.Need-returns-2 Inv-loop μ-loop
 returns-2 c =
     let at-loop = c .before .before in
-    walked-all _ _ _ _ _ _ _ (omega arith) (at-loop .loop .inv .2) (c .all-marked .ensures)
+    walked-all (omega arith) (at-loop .loop .inv .2) (c .all-marked .ensures)
 
 pub once-each-spec : {M : Type 1} → statement M
 once-each-spec =

@@ -4,9 +4,6 @@ use borrow.Author.Needs.{needs}
 use Rattle.layout.proofs.field.class_of.Statement.{statement}
 use Rattle.layout.proofs.field.class_of.Tie as tie
 
-returns : tie.Need-returns
-unfolding decode
-returns c = c .field .ensures
-
 pub class-of-spec : {M : Type 1} → statement M
-class-of-spec = tie.close (tie.spec (λ c κs. search needs) returns)
+unfolding decode
+class-of-spec = tie.close (tie.spec (λ c κs. search needs) (λ c. search needs))

@@ -39,15 +39,11 @@ star-requires c κs =
 
 returns : tie.Need-returns
 returns c =
-    let flag = c .before in
-    let mode = flag .before in
-    let given = mode .before in
-    let class = given .before in
-    let place = class .before in
-    let number = place .before in
-    let pre = number .before .before .pre in
-    λ ring w. block-is _ _ ring _ _ _ _ _ _ (omega (arith, pre .2, sized _ (pre .0) .most-events)) (number .aligned .ensures) (search needs) (place .place .ensures)
-    (given .letter .ensures ∙ ap letter (class .class-of .ensures .0)) (mode .mode-of .ensures .0) (flag .flag-of .ensures .0) (c .star .ensures ring w)
+    let given = c .before .before .before in
+    let place = given .before .before in
+    let pre = place .before .before .before .pre in
+    λ ring w. block-is _ _ ring (omega (arith, pre .2, sized _ (pre .0) .most-events)) (place .before .aligned .ensures) (place .place .ensures)
+    (given .letter .ensures ∙ ap letter (given .before .class-of .ensures .0)) (c .before .before .mode-of .ensures .0) (c .before .flag-of .ensures .0) (c .star .ensures ring w)
 
 pub block-spec : {M : Type 1} → statement M
 block-spec =

@@ -31,9 +31,6 @@ add-n c = omega (arith, few c)
 cast-r : tie.Need-cast-r Inv-loop μ-loop
 cast-r c = omega (arith, few c)
 
-array-write-r : tie.Need-array-write-r Inv-loop μ-loop
-array-write-r c = omega (arith, c .before .loop-test .taken)
-
 loop-again : tie.Need-loop-again Inv-loop μ-loop
 loop-again c =
     let inv = c .before .before .loop .inv in
@@ -45,4 +42,5 @@ returns c = started-all _ _ _ _ (c .before .loop .inv .1) (c .loop-test .left)
 pub starts-spec : {M : Type 1} → statement M
 starts-spec =
     tie.close
-    (tie.spec Inv-loop μ-loop loop-holds length-of-requires add-n (λ c. search needs) cast-r array-write-r (λ c. search needs) loop-again returns)
+    (tie.spec Inv-loop μ-loop loop-holds length-of-requires add-n (λ c. search needs) cast-r (λ c. search needs) (λ c. search needs) loop-again
+    returns)

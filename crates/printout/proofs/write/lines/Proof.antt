@@ -18,28 +18,20 @@ abbrev μ-loop : tie.MeasureT-loop
 loop-holds : tie.Need-loop-holds Inv-loop μ-loop
 loop-holds c = (let pre = c .before .before .pre in (pre .0, pre .1, pre .2, search needs, lines-none _ _ _ _ (pre .3)))
 
-line-requires : tie.Need-line-requires Inv-loop μ-loop
-line-requires c κs =
-    let turn = c .before in
-    let inv = turn .before .loop .inv in
-    (inv .0, inv .1, omega (arith, turn .loop-test .taken, inv .2, inv .3), omega (arith, turn .loop-test .taken, inv .3, inv .4 .room, inv .4 .long))
-
 loop-again : tie.Need-loop-again Inv-loop μ-loop
 loop-again c =
     let turn = c .before .before .before .before in
     let inv = turn .before .loop .inv in
     let made = c .before .before .line .ensures in
-    (inv .0, inv .1, inv .2, omega (arith, turn .loop-test .taken, inv .3), lines-written _ _ _ (inv .0) _ _ _ _ (inv .4) (omega (arith, turn .loop-test .taken, inv .3)) (made .0) (made .1))
-
-same-length : tie.Need-same-length Inv-loop μ-loop
-same-length c = c .before .loop .inv .4 .long
+    (inv .0, inv .1, inv .2, omega (arith, turn .loop-test .taken, inv .3), lines-written _ _ _ (inv .0) (inv .4) (omega (arith, turn .loop-test .taken, inv .3)) (made .0) (made .1))
 
 returns : tie.Need-returns Inv-loop μ-loop
 returns c =
     let inv = c .before .loop .inv in
-    lines-all _ _ _ (inv .0) _ _ _ (inv .4) (omega (arith, inv .3, c .loop-test .left))
+    lines-all _ _ _ (inv .0) (inv .4) (omega (arith, inv .3, c .loop-test .left))
 
 pub lines-spec : {M : Type 1} → statement M
 lines-spec =
     tie.close
-    (tie.spec Inv-loop μ-loop loop-holds line-requires (λ c. search needs) (λ c. search needs) (λ c. search needs) loop-again same-length returns)
+    (tie.spec Inv-loop μ-loop loop-holds (λ c κs. search needs) (λ c. search needs) (λ c. search needs) (λ c. search needs) loop-again
+    (λ c. search needs) returns)

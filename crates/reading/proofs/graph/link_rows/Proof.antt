@@ -18,20 +18,15 @@ abbrev μ-loop : tie.MeasureT-loop
 loop-holds : tie.Need-loop-holds Inv-loop μ-loop
 loop-holds c = (search needs, c .before .before .pre, rows-none-of _ _ _ (search needs) (c .empty .ensures))
 
-sources-of-requires : tie.Need-sources-of-requires Inv-loop μ-loop
-sources-of-requires c κs = c .before .loop .inv .1
-
 loop-again : tie.Need-loop-again Inv-loop μ-loop
 loop-again c =
     let turn = c .before in
     let inv = turn .before .loop .inv in
     (search needs, inv .1, rows-set _ _ _ _ _ (inv .2) (turn .loop-test .taken) (c .sources-of .ensures))
 
-returns : tie.Need-returns Inv-loop μ-loop
-returns c = rows-all _ _ _ _ (c .loop-test .left) (c .before .loop .inv .2) (link-out _ (c .before .loop .inv .1 .sized) _)
-
 pub link-rows-spec : {M : Type 1} → statement M
 link-rows-spec =
     tie.close
-    (tie.spec Inv-loop μ-loop (λ c κs. search needs) loop-holds sources-of-requires (λ c. search needs) (λ c. search needs) (λ c. search needs)
-    (λ c. search needs) loop-again returns)
+    (tie.spec Inv-loop μ-loop (λ c κs. search needs) loop-holds (λ c κs. c .before .loop .inv .1) (λ c. search needs) (λ c. search needs)
+    (λ c. search needs) (λ c. search needs) loop-again
+    (λ c. rows-all _ _ _ _ (c .loop-test .left) (c .before .loop .inv .2) (link-out _ (c .before .loop .inv .1 .sized) _)))

@@ -17,16 +17,13 @@ abbrev μ-loop : tie.MeasureT-loop
 μ-loop file row k h₀ e₀ h e = 64 - e
 
 loop-holds : tie.Need-loop-holds Inv-loop μ-loop
-loop-holds c = (let pre = c .before .before .pre in (pre .0, pre .1, pre .2, sorting-first _ _ _ _ (c .first .ensures)))
+loop-holds c = (let pre = c .before .before .pre in (pre .0, pre .1, pre .2, sorting-first _ _ _ (c .first .ensures)))
 
 event-byte-requires : tie.Need-event-byte-requires Inv-loop μ-loop
 event-byte-requires c κs =
     let inv = c .before .loop .inv in
-    let bounds = sorting-recorded _ _ _ (inv .2) _ _ (inv .3) (c .loop-test .taken) in
+    let bounds = sorting-recorded _ _ (inv .3) (inv .2) (c .loop-test .taken) in
     (inv .0, bounds .0, bounds .1, inv .1)
-
-loop-less : tie.Need-loop-less Inv-loop μ-loop
-loop-less c = omega (arith, c .next .ensures .low, c .before .before .before .loop-test .taken)
 
 loop-again : tie.Need-loop-again Inv-loop μ-loop
 loop-again c =
@@ -35,15 +32,16 @@ loop-again c =
     let inside = turn .loop-test .taken in
     let at = c .before .before .event-byte .ensures .0 in
     elim (c .before .if1 .came) [
-      | inl w ↦ rw (w .3) (inv .0, inv .1, inv .2, sorting-with _ _ _ _ _ (inv .3) inside _ (c .next .ensures) _ at _ (w .0 .taken) (w .2 .ensures))
-      | inr w ↦ rw (w .1) (inv .0, inv .1, inv .2, sorting-keep _ _ _ _ _ (inv .3) inside _ (c .next .ensures) _ at (w .0 .left))
+      | inl w ↦ rw (w .3) (inv .0, inv .1, inv .2, sorting-with _ _ (inv .3) inside (c .next .ensures) at _ (w .0 .taken) (w .2 .ensures))
+      | inr w ↦ rw (w .1) (inv .0, inv .1, inv .2, sorting-keep _ _ (inv .3) inside (c .next .ensures) at (w .0 .left))
     ]
 
 returns : tie.Need-returns Inv-loop μ-loop
-returns c = sorting-all _ _ _ _ _ (c .loop-test .left) (c .before .loop .inv .3)
+returns c = sorting-all _ (c .loop-test .left) (c .before .loop .inv .3)
 
 pub sorted-spec : {M : Type 1} → statement M
 sorted-spec =
     tie.close
     (tie.spec Inv-loop μ-loop (λ c κs. search needs) loop-holds event-byte-requires (λ c. search needs) (λ c. search needs) (λ c κs. search needs)
-    (λ c. search needs) (λ c. search needs) (λ c. search needs) (λ c κs. search needs) loop-less loop-again returns)
+    (λ c. search needs) (λ c. search needs) (λ c. search needs) (λ c κs. search needs)
+    (λ c. omega (arith, c .next .ensures .low, c .before .before .before .loop-test .taken)) loop-again returns)

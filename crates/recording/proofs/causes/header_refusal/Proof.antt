@@ -47,39 +47,15 @@ returns : tie.Need-returns
 unfolding headerCauses tooShort at positive first
 returns c = (sym (first-at 0 (headerCauses (c .before .before .args .file .now)) refl refl (lt-ltb _ 8 (c .if1 .taken))), λ e. absurd (omega arith))
 
-cast-kind : tie.Need-cast-kind
-cast-kind c = omega (arith, c .shared-slice-known2 .given 0)
-
 returns-2 : tie.Need-returns-2
 unfolding headerCauses kindUnknown at positive
 returns-2 c = (sym (first-at 1 (headerCauses _) refl (none-1 (c .before .before .before)) (ap not (sym (c .before .known .ensures)) ∙ c .if2 .taken)), λ e. absurd (omega arith))
-
-cast-n : tie.Need-cast-n
-cast-n c = omega (arith, c .shared-slice-known3 .given 1)
-
-cast-l : tie.Need-cast-l
-cast-l c = omega (arith, c .shared-slice-known4 .given 2)
-
-cast-m : tie.Need-cast-m
-cast-m c = omega (arith, c .shared-slice-known5 .given 3)
 
 returns-3 : tie.Need-returns-3
 unfolding headerCauses at positive
 returns-3 c =
     let two = c .before .before .before .before .before .before in
     (sym (first-at 2 (headerCauses _) refl (none-2 two) (sym (over-of (file (to-1 two)) _ _ (c .before .before .side-of .ensures) (c .before .over-limit .ensures)) ∙ c .if3 .taken)), λ e. absurd (omega arith))
-
-mul-if4 : tie.Need-mul-if4
-mul-if4 c = omega (arith, small c)
-
-add-if4 : tie.Need-add-if4
-add-if4 c = omega (arith, small c)
-
-mul-if4-2 : tie.Need-mul-if4-2
-mul-if4-2 c = omega (arith, small c)
-
-add-if4-2 : tie.Need-add-if4-2
-add-if4-2 c = omega (arith, small c)
 
 returns-4 : tie.Need-returns-4
 unfolding headerCauses wrongLength at positive
@@ -92,5 +68,7 @@ returns-5 c = (sym (none-more 3 (headerCauses _) refl (none-3 (c .before)) (ap n
 pub header-refusal-spec : {M : Type 1} → statement M
 header-refusal-spec =
     tie.close
-    (tie.spec returns (λ c. search needs) cast-kind (λ c κs. search needs) returns-2 (λ c. search needs) cast-n (λ c. search needs) cast-l
-    (λ c. search needs) cast-m (λ c κs. search needs) (λ c κs. search needs) returns-3 mul-if4 add-if4 mul-if4-2 add-if4-2 returns-4 returns-5)
+    (tie.spec returns (λ c. search needs) (λ c. omega (arith, c .shared-slice-known2 .given 0)) (λ c κs. search needs) returns-2 (λ c. search needs)
+    (λ c. omega (arith, c .shared-slice-known3 .given 1)) (λ c. search needs) (λ c. omega (arith, c .shared-slice-known4 .given 2))
+    (λ c. search needs) (λ c. omega (arith, c .shared-slice-known5 .given 3)) (λ c κs. search needs) (λ c κs. search needs) returns-3
+    (λ c. omega (arith, small c)) (λ c. omega (arith, small c)) (λ c. omega (arith, small c)) (λ c. omega (arith, small c)) returns-4 returns-5)

@@ -53,20 +53,12 @@ returns : tie.Need-returns
 unfolding linkCauses badLink at positive first
 returns c = sym (first-at 0 (linkCauses (c .before .before .before .before .args .file .now)) refl refl (opposite _ _ _ (c .before .links-sound .ensures) (c .if1 .taken)))
 
-returns-2 : tie.Need-returns-2
-unfolding linkCauses at positive
-returns-2 c = sym (first-at 1 (linkCauses _) refl (none-1 (c .before .before)) (sym (c .before .co-ring .ensures) ∙ c .if2 .taken))
-
-returns-3 : tie.Need-returns-3
-unfolding linkCauses unpaired at positive
-returns-3 c = sym (first-at 2 (linkCauses _) refl (none-2 (c .before .before)) (opposite _ _ _ (c .before .paired .ensures) (c .if3 .taken)))
-
-returns-4 : tie.Need-returns-4
-unfolding linkCauses unpaired at positive
-returns-4 c = sym (none-more 2 (linkCauses _) refl (none-2 (c .before .before)) (opposite _ _ _ (c .before .paired .ensures) (c .if3 .left)))
-
 pub link-refusal-spec : {M : Type 1} → statement M
+unfolding linkCauses at positive unpaired
 link-refusal-spec =
     tie.close
-    (tie.spec program-order-requires links-sound-requires returns (λ c κs. readable c) returns-2 (λ c κs. readable (c .before .before)) returns-3
-    returns-4)
+    (tie.spec program-order-requires links-sound-requires returns (λ c κs. readable c)
+    (λ c. sym (first-at 1 (linkCauses _) refl (none-1 (c .before .before)) (sym (c .before .co-ring .ensures) ∙ c .if2 .taken)))
+    (λ c κs. readable (c .before .before))
+    (λ c. sym (first-at 2 (linkCauses _) refl (none-2 (c .before .before)) (opposite _ _ _ (c .before .paired .ensures) (c .if3 .taken))))
+    (λ c. sym (none-more 2 (linkCauses _) refl (none-2 (c .before .before)) (opposite _ _ _ (c .before .paired .ensures) (c .if3 .left)))))

@@ -27,28 +27,15 @@ none-3 : (c : tie.Else3) → first (take 3 (recordCauses (file (c .before .befor
 unfolding recordCauses at positive
 none-3 c = none-more 2 (recordCauses (file (c .before .before .before .before))) refl (none-2 (c .before .before)) (sym (c .before .long-thread .ensures) ∙ c .if3 .left)
 
-returns : tie.Need-returns
-unfolding recordCauses badEvent at positive first
-returns c = sym (first-at 0 (recordCauses (c .before .before .before .args .file .now)) refl refl (opposite _ _ _ (c .before .events-legal .ensures) (c .if1 .taken)))
-
-returns-2 : tie.Need-returns-2
-unfolding recordCauses at positive
-returns-2 c = sym (first-at 1 (recordCauses _) refl (none-1 (c .before .before)) (sym (c .before .threads-sound .ensures) ∙ c .if2 .taken))
-
-returns-3 : tie.Need-returns-3
-unfolding recordCauses at positive
-returns-3 c = sym (first-at 2 (recordCauses _) refl (none-2 (c .before .before)) (sym (c .before .long-thread .ensures) ∙ c .if3 .taken))
-
-returns-4 : tie.Need-returns-4
-unfolding recordCauses at positive
-returns-4 c = sym (first-at 3 (recordCauses _) refl (none-3 (c .before .before)) (sym (c .before .chains-sound .ensures) ∙ c .if4 .taken))
-
-returns-5 : tie.Need-returns-5
-unfolding recordCauses at positive
-returns-5 c = sym (none-more 3 (recordCauses _) refl (none-3 (c .before .before)) (sym (c .before .chains-sound .ensures) ∙ c .if4 .left))
-
 pub record-refusal-spec : {M : Type 1} → statement M
+unfolding recordCauses badEvent at positive first
 record-refusal-spec =
     tie.close
-    (tie.spec (λ c κs. search needs) returns (λ c κs. search needs) returns-2 (λ c κs. search needs) returns-3 (λ c κs. search needs) returns-4
-    returns-5)
+    (tie.spec (λ c κs. search needs)
+    (λ c. sym (first-at 0 (recordCauses (c .before .before .before .args .file .now)) refl refl (opposite _ _ _ (c .before .events-legal .ensures) (c .if1 .taken)))) (λ c κs. search needs)
+    (λ c. sym (first-at 1 (recordCauses _) refl (none-1 (c .before .before)) (sym (c .before .threads-sound .ensures) ∙ c .if2 .taken)))
+    (λ c κs. search needs)
+    (λ c. sym (first-at 2 (recordCauses _) refl (none-2 (c .before .before)) (sym (c .before .long-thread .ensures) ∙ c .if3 .taken)))
+    (λ c κs. search needs)
+    (λ c. sym (first-at 3 (recordCauses _) refl (none-3 (c .before .before)) (sym (c .before .chains-sound .ensures) ∙ c .if4 .taken)))
+    (λ c. sym (none-more 3 (recordCauses _) refl (none-3 (c .before .before)) (sym (c .before .chains-sound .ensures) ∙ c .if4 .left))))

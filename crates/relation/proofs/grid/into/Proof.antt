@@ -1,33 +1,30 @@
 -- `grid::into` meets its contract, row by row.
-use mathlib.Core.Path.{_≡_}
-use Prim.Native.Nat.{_-_, _≤_}
-use lib.ListN.{length}
-use Rattle.relation.specs.Rel.{into}
+use mathlib.Core.Path.{refl}
+use Prim.Native.Nat.{_-_}
+use Rattle.relation.specs.Rel.{empty, intersection, into}
 use Rattle.relation.specs.Bits.{bit, edge}
-use Rattle.relation.proofs.GridLaws.{Rows, rows-none, rows-set, rows-all, edge-out, intersection-out}
+use Rattle.relation.proofs.GridLaws.{Mapped, mapped-start, mapped-more, mapped-all}
 use borrow.Author.Needs.{needs}
 use Rattle.relation.proofs.grid.into.Statement.{statement}
 use Rattle.relation.proofs.grid.into.Tie as tie
 
 abbrev Inv-loop : tie.InvT-loop
-Inv-loop s g h₀ i₀ h i = (i ≤ 64) × Rows (into (edge g) (bit s)) (edge g) h i × (length g ≡ 64)
+Inv-loop s g h₀ i₀ h i = Mapped (λ m t. intersection t (bit s)) g h i
 
 abbrev μ-loop : tie.MeasureT-loop
 μ-loop s g h₀ i₀ h i = 64 - i
 
 loop-holds : tie.Need-loop-holds Inv-loop μ-loop
-loop-holds c = (search needs, rows-none _ _ (search needs), search needs)
+unfolding intersection empty
+loop-holds c = mapped-start (search needs) (λ m h. refl)
 
 loop-again : tie.Need-loop-again Inv-loop μ-loop
-unfolding edge into
-loop-again c =
-    let turn = c .before .before in
-    let inv = turn .before .loop .inv in
-    (search needs, rows-set _ _ _ _ _ (inv .1) (turn .loop-test .taken) (c .and .ensures), inv .2)
+unfolding edge
+loop-again c = (let turn = c .before .before in mapped-more (turn .before .loop .inv) (turn .loop-test .taken) _ (c .and .ensures))
 
 returns : tie.Need-returns Inv-loop μ-loop
 unfolding into
-returns c = rows-all _ _ _ _ (c .loop-test .left) (c .before .loop .inv .1) (λ m h. intersection-out _ _ (edge-out _ (c .before .loop .inv .2) m h))
+returns c = mapped-all (c .before .loop .inv) (c .loop-test .left)
 
 pub into-spec : {M : Type 1} → statement M
 into-spec =

@@ -26,16 +26,16 @@ loop-holds c = (search needs, c .empty .ensures ∙ turned-none _ (search needs)
 
 loop2-holds : tie.Need-loop2-holds Inv-loop2 μ-loop2 Inv-loop μ-loop
 unfolding edge
-loop2-holds c = (let inv = c .before .before .before .loop .inv in turning-first _ _ _ _ _ (inv .3) (inv .2) (inv .1) refl (c .first .ensures))
+loop2-holds c = (let inv = c .before .before .before .loop .inv in turning-first (inv .3) (inv .2) (inv .1) refl (c .first .ensures))
 
 loop2-less : tie.Need-loop2-less Inv-loop2 μ-loop2 Inv-loop μ-loop
 loop2-less c = (let turn = c .before .before .before in omega (arith, c .next .ensures .low, turn .loop2-test .taken))
 
 loop2-again : tie.Need-loop2-again Inv-loop2 μ-loop2 Inv-loop μ-loop
-loop2-again c = (let turn = c .before .before .before in turning-next _ _ _ _ _ (turn .before .loop2 .inv) (turn .loop2-test .taken) (c .before .before .before .before .before .before .before .loop-test .taken) _ _ (c .before .with .ensures) (c .next .ensures))
+loop2-again c = (let turn = c .before .before .before in turning-next (turn .before .loop2 .inv) (turn .loop2-test .taken) _ (c .before .with .ensures) (c .next .ensures))
 
 loop-again : tie.Need-loop-again Inv-loop2 μ-loop2 Inv-loop μ-loop
-loop-again c = (let inv = c .before .loop2 .inv in (search needs, turning-all _ _ _ _ _ inv (c .loop2-test .left), inv .long, inv .given))
+loop-again c = (let inv = c .before .loop2 .inv in (search needs, turning-all inv (c .loop2-test .left), inv .long, inv .given))
 
 returns : tie.Need-returns Inv-loop2 μ-loop2 Inv-loop μ-loop
 returns c = (let inv = c .before .loop .inv in inv .1 ∙ turned-all _ (inv .3) _ (omega (arith, c .loop-test .left)))

@@ -1,33 +1,30 @@
 -- `grid::minus` meets its contract, row by row.
-use mathlib.Core.Path.{_≡_}
-use Prim.Native.Nat.{_-_, _≤_}
-use lib.ListN.{length}
-use Rattle.relation.specs.Rel.{minus}
+use mathlib.Core.Path.{refl}
+use Prim.Native.Nat.{_-_}
+use Rattle.relation.specs.Rel.{empty, difference, minus}
 use Rattle.relation.specs.Bits.{edge}
-use Rattle.relation.proofs.GridLaws.{Rows, rows-none, rows-set, rows-all, edge-out, difference-out}
+use Rattle.relation.proofs.GridLaws.{Mapped, mapped-start, mapped-more, mapped-all}
 use borrow.Author.Needs.{needs}
 use Rattle.relation.proofs.grid.minus.Statement.{statement}
 use Rattle.relation.proofs.grid.minus.Tie as tie
 
 abbrev Inv-loop : tie.InvT-loop
-Inv-loop a b h₀ i₀ h i = (i ≤ 64) × Rows (minus (edge a) (edge b)) (edge a) h i × (length a ≡ 64) × (length b ≡ 64)
+Inv-loop a b h₀ i₀ h i = Mapped (λ m s. difference s (edge b m)) a h i
 
 abbrev μ-loop : tie.MeasureT-loop
 μ-loop a b h₀ i₀ h i = 64 - i
 
 loop-holds : tie.Need-loop-holds Inv-loop μ-loop
-loop-holds c = (search needs, rows-none _ _ (search needs), search needs, search needs)
+unfolding difference empty
+loop-holds c = mapped-start (search needs) (λ m h. refl)
 
 loop-again : tie.Need-loop-again Inv-loop μ-loop
-unfolding edge minus
-loop-again c =
-    let turn = c .before .before .before in
-    let inv = turn .before .loop .inv in
-    (search needs, rows-set _ _ _ _ _ (inv .1) (turn .loop-test .taken) (c .minus .ensures), inv .2, inv .3)
+unfolding edge
+loop-again c = (let turn = c .before .before .before in mapped-more (turn .before .loop .inv) (turn .loop-test .taken) _ (c .minus .ensures))
 
 returns : tie.Need-returns Inv-loop μ-loop
 unfolding minus
-returns c = rows-all _ _ _ _ (c .loop-test .left) (c .before .loop .inv .1) (λ m h. difference-out _ _ (edge-out _ (c .before .loop .inv .2) m h))
+returns c = mapped-all (c .before .loop .inv) (c .loop-test .left)
 
 pub minus-spec : {M : Type 1} → statement M
 minus-spec =

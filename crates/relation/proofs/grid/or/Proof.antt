@@ -1,33 +1,29 @@
 -- `grid::or` meets its contract, row by row.
-use mathlib.Core.Path.{_≡_}
-use Prim.Native.Nat.{_-_, _≤_}
-use lib.ListN.{length}
-use Rattle.relation.specs.Rel.{either}
+use Prim.Native.Nat.{_-_}
+use Rattle.relation.specs.Rel.{empty, union, either}
 use Rattle.relation.specs.Bits.{edge}
-use Rattle.relation.proofs.GridLaws.{Rows, rows-none, rows-set, rows-all, edge-out, union-out}
+use Rattle.relation.proofs.GridLaws.{Mapped, mapped-start, mapped-more, mapped-all, edge-out}
 use borrow.Author.Needs.{needs}
 use Rattle.relation.proofs.grid.or.Statement.{statement}
 use Rattle.relation.proofs.grid.or.Tie as tie
 
 abbrev Inv-loop : tie.InvT-loop
-Inv-loop a b h₀ i₀ h i = (i ≤ 64) × Rows (either (edge a) (edge b)) (edge a) h i × (length a ≡ 64) × (length b ≡ 64)
+Inv-loop a b h₀ i₀ h i = Mapped (λ m s. union s (edge b m)) a h i
 
 abbrev μ-loop : tie.MeasureT-loop
 μ-loop a b h₀ i₀ h i = 64 - i
 
 loop-holds : tie.Need-loop-holds Inv-loop μ-loop
-loop-holds c = (search needs, rows-none _ _ (search needs), search needs, search needs)
+unfolding union empty
+loop-holds c = mapped-start (search needs) (edge-out _ (search needs))
 
 loop-again : tie.Need-loop-again Inv-loop μ-loop
-unfolding edge either
-loop-again c =
-    let turn = c .before .before .before in
-    let inv = turn .before .loop .inv in
-    (search needs, rows-set _ _ _ _ _ (inv .1) (turn .loop-test .taken) (c .or .ensures), inv .2, inv .3)
+unfolding edge
+loop-again c = (let turn = c .before .before .before in mapped-more (turn .before .loop .inv) (turn .loop-test .taken) _ (c .or .ensures))
 
 returns : tie.Need-returns Inv-loop μ-loop
 unfolding either
-returns c = rows-all _ _ _ _ (c .loop-test .left) (c .before .loop .inv .1) (λ m h. union-out _ _ (edge-out _ (c .before .loop .inv .2) m h) (edge-out _ (c .before .loop .inv .3) m h))
+returns c = mapped-all (c .before .loop .inv) (c .loop-test .left)
 
 pub or-spec : {M : Type 1} → statement M
 or-spec =

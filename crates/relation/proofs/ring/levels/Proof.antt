@@ -1,17 +1,18 @@
 -- `ring::levels` meets its contract: each row is what one more step reaches.
 use mathlib.Core.Path.{_≡_}
 use Prim.Native.Nat.{_-_, _≤_}
+use native.Mathlib.Omega.{arith}
 use Rattle.relation.specs.Rel.{none}
 use Rattle.relation.specs.Bits.{bit, edge}
 use Rattle.relation.specs.Ring.{power}
-use Rattle.relation.proofs.GridLaws.{Rows, rows-none-of}
-use Rattle.relation.proofs.RingLaws.{reached, reached-more, reached-done, power-zero, power-suc}
+use Rattle.relation.proofs.GridLaws.{Rows, rows-none-of, rows-set}
+use Rattle.relation.proofs.RingLaws.{power-zero, power-suc}
 use borrow.Author.Needs.{needs}
 use Rattle.relation.proofs.ring.levels.Statement.{statement}
 use Rattle.relation.proofs.ring.levels.Tie as tie
 
 abbrev Inv-loop : tie.InvT-loop
-Inv-loop g s h₀ x₀ k₀ h x k = (k ≤ 64) × Rows (reached (edge g) s) none h k × (bit x ≡ power k (edge g) s)
+Inv-loop g s h₀ x₀ k₀ h x k = (k ≤ 64) × Rows (λ m. power m (edge g) s) none h k × (bit x ≡ power k (edge g) s)
 
 abbrev μ-loop : tie.MeasureT-loop
 μ-loop g s h₀ x₀ k₀ h x k = 64 - k
@@ -23,10 +24,11 @@ loop-again : tie.Need-loop-again Inv-loop μ-loop
 loop-again c =
     let turn = c .before in
     let inv = turn .before .loop .inv in
-    (search needs, reached-more _ _ _ _ _ _ (inv .1) (turn .loop-test .taken) (inv .2), power-suc _ _ _ _ _ (inv .2) (c .image .ensures))
+    (search needs, rows-set _ _ _ _ _ (inv .1) (turn .loop-test .taken) (inv .2), power-suc _ _ _ _ _ (inv .2) (c .image .ensures))
 
 returns : tie.Need-returns Inv-loop μ-loop
-returns c = reached-done _ _ _ _ _ (c .loop-test .left) (c .before .loop .inv .1)
+unfolding edge
+returns c = λ k h. c .before .loop .inv .1 .done k (omega (arith, c .loop-test .left))
 
 pub levels-spec : {M : Type 1} → statement M
 levels-spec =

@@ -8,7 +8,7 @@ use Rattle.relation.proofs.ring.ring.Statement.{statement}
 use Rattle.relation.proofs.ring.ring.Tie as tie
 
 returns : tie.Need-returns
-returns c = (search needs, ring-none _ _ (edge-inside _ (search needs)) (edge-inside _ (search needs)) _ _ (c .if1 .taken) (c .before .shortest .ensures) _ refl)
+returns c = (search needs, ring-none (edge-inside _ (search needs)) (edge-inside _ (search needs)) (c .before .shortest .ensures) (c .if1 .taken) refl)
 
 way-requires : tie.Need-way-requires
 way-requires c κs =
@@ -18,7 +18,7 @@ way-requires c κs =
 returns-2 : tie.Need-returns-2
 returns-2 c =
     let start = c .before .before .before in
-    (omega (arith, c .turned .ensures .same, c .before .before .if1 .left), ring-some _ _ (edge-inside _ (search needs)) (edge-inside _ (search needs)) _ _ _ (c .before .before .if1 .left) (start .shortest .ensures) (c .before .way .ensures) _ _ _ (c .turned .ensures) (omega arith))
+    (omega (arith, c .turned .ensures .same, c .before .before .if1 .left), ring-some (edge-inside _ (search needs)) (edge-inside _ (search needs)) (start .shortest .ensures) (c .before .before .if1 .left) (c .before .way .ensures) (c .turned .ensures) (omega arith))
 
 pub ring-spec : {M : Type 1} → statement M
 ring-spec =

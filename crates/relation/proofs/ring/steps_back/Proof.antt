@@ -24,10 +24,10 @@ before : (c : tie.After-first Inv-loop μ-loop)
 unfolding edge
 before c =
     let inv = c .before .before .before .before .before .loop .inv in
-    back-pick _ _ _ _ _ _ _ _ _ _ (omega arith) (inv .1) (inv .0) (inv .2) (c .before .and .ensures) (c .first .ensures)
+    back-pick (inv .2) (inv .0) (omega arith) (inv .1) (c .before .and .ensures) (c .first .ensures)
 
 loop-holds : tie.Need-loop-holds Inv-loop μ-loop
-loop-holds c = (c .pre .0, c .pre .3, back-start _ _ _ _ (replicate 64 0) (search needs) (c .pre .0) (c .pre .1) (c .pre .2))
+loop-holds c = (c .pre .0, c .pre .3, back-start (replicate 64 0) (search needs) (c .pre .0) (c .pre .1) (c .pre .2))
 
 cast-at-2 : tie.Need-cast-at-2 Inv-loop μ-loop
 cast-at-2 c = omega (arith, before c .inside)
@@ -36,10 +36,10 @@ loop-again : tie.Need-loop-again Inv-loop μ-loop
 loop-again c =
     let turn = c .before .before .before .before in
     let inv = turn .before .loop .inv in
-    (inv .0, inv .1, back-more _ _ _ _ _ _ _ _ _ (omega arith) (inv .2) (inv .0) (before c))
+    (inv .0, inv .1, back-more (inv .2) (inv .0) (omega arith) (before c))
 
 returns : tie.Need-returns Inv-loop μ-loop
-returns c = back-all _ _ _ _ _ _ _ (c .before .loop .inv .2) (c .loop-test .left)
+returns c = back-all (c .before .loop .inv .2) (c .loop-test .left)
 
 pub steps-back-spec : {M : Type 1} → statement M
 steps-back-spec =

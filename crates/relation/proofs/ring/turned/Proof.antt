@@ -14,7 +14,7 @@ abbrev μ-loop : tie.MeasureT-loop
 μ-loop len at m out₀ k₀ out k = len - k
 
 loop-holds : tie.Need-loop-holds Inv-loop μ-loop
-loop-holds c = (search needs, search needs, c .smallest-at .ensures, turning-none _ _ _ _ (search needs))
+loop-holds c = (search needs, search needs, c .smallest-at .ensures, turning-none (search needs))
 
 array-read-out : tie.Need-array-read-out Inv-loop μ-loop
 array-read-out c =
@@ -24,10 +24,10 @@ array-read-out c =
 loop-again : tie.Need-loop-again Inv-loop μ-loop
 loop-again c =
     let inv = c .before .before .loop .inv in
-    (search needs, inv .1, inv .2, turning-more _ _ _ _ _ _ (inv .3) (omega arith) (c .turned-to .ensures))
+    (search needs, inv .1, inv .2, turning-more (inv .3) (omega arith) (c .turned-to .ensures))
 
 returns : tie.Need-returns Inv-loop μ-loop
-returns c = turning-all _ _ _ _ _ (c .loop-test .left) (c .before .loop .inv .3) (c .before .loop .inv .2)
+returns c = turning-all (c .loop-test .left) (c .before .loop .inv .3) (c .before .loop .inv .2)
 
 pub turned-spec : {M : Type 1} → statement M
 turned-spec =

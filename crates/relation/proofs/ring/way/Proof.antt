@@ -15,7 +15,7 @@ unfolding edge
 last c =
     let made = c .before .before .before .before in
     let pre = made .before .pre in
-    closing-pick _ _ _ _ _ _ _ (pre .1) (made .levels .ensures) (pre .2)
+    closing-pick _ (pre .1) (made .levels .ensures) (pre .2)
     (c .before .and .ensures ∙ ap (intersection _) (c .before .before .column .ensures)) (c .first .ensures)
 
 steps-back-requires : tie.Need-steps-back-requires
@@ -27,7 +27,7 @@ steps-back-requires c κs =
 returns : tie.Need-returns
 returns c =
     let made = c .before .before .before .before .before .before in
-    way-of-steps _ _ _ _ _ _ _ _ (made .before .pre .1) (made .levels .ensures) (c .before .inverse .ensures) (last (c .before .before) .leads) (c .steps-back .ensures)
+    way-of-steps (made .before .pre .1) (made .levels .ensures) (c .before .inverse .ensures) (last (c .before .before) .leads) (c .steps-back .ensures)
 
 pub way-spec : {M : Type 1} → statement M
 way-spec =

@@ -1,5 +1,5 @@
 -- `row::all` meets its contract: every bit is on in eight bytes of 255.
-use Rattle.relation.proofs.ByteLaws.{bit-all}
+use Rattle.relation.proofs.WordLaws.{bit-all}
 use Rattle.relation.proofs.row.all.Statement.{statement}
 use Rattle.relation.proofs.row.all.Tie as tie
 

@@ -5,8 +5,6 @@ use mir.Val.{Fits}
 use borrow.Author.Needs.{needs}
 use Rattle.relation.proofs.row.bytes.Statement.{statement}
 use Rattle.relation.proofs.row.bytes.Tie as tie
-use Rattle.relation.proofs.row.bytes.Reads as reads
-use Rattle.relation.proofs.row.bytes.Lts as lts
 
 returns : tie.Need-returns
 returns c = (let f : Fits w64 (c .args .w) = search needs in bytes-bit (c .args .w) (f .fits))

@@ -1,30 +1,12 @@
--- `row::minus` meets its contract, byte by byte.
-use mathlib.Core.Path.{refl, fun-ext}
-use Prim.Native.Nat.{_-_, _≤_}
-use Rattle.relation.specs.Rel.{difference}
-use Rattle.relation.proofs.ByteLaws.{bitBut, but, Bytes, bytes-none, bytes-more, bytes-all, on-but}
+-- `row::minus` meets its contract: the bits of one word that the other has not.
+use mathlib.Core.Path.{_∙_}
+use Rattle.relation.proofs.WordLaws.{on-difference}
 use borrow.Author.Needs.{needs}
 use Rattle.relation.proofs.row.minus.Statement.{statement}
 use Rattle.relation.proofs.row.minus.Tie as tie
 
-abbrev Inv-loop : tie.InvT-loop
-Inv-loop a b r₀ k₀ r k = (k ≤ 8) × Bytes bitBut a b r k
-
-abbrev μ-loop : tie.MeasureT-loop
-μ-loop a b r₀ k₀ r k = 8 - k
-
-loop-holds : tie.Need-loop-holds Inv-loop μ-loop
-loop-holds c = (search needs, bytes-none bitBut _ _ _ (search needs))
-
-loop-again : tie.Need-loop-again Inv-loop μ-loop
-loop-again c = (search needs, bytes-more bitBut _ _ _ _ (c .before .loop .inv .1) (c .loop-test .taken))
-
-returns : tie.Need-returns Inv-loop μ-loop
-unfolding difference
-returns c = fun-ext (bytes-all bitBut but on-but refl _ _ _ _ (c .loop-test .left) (c .before .loop .inv .1))
+returns : tie.Need-returns
+returns c = c .bytes .ensures ∙ on-difference _ _ _ _ (c .before .before .word .ensures) (c .before .word2 .ensures)
 
 pub minus-spec : {M : Type 1} → statement M
-minus-spec =
-    tie.close
-    (tie.spec Inv-loop μ-loop loop-holds (λ c. search needs) (λ c. search needs) (λ c. search needs) (λ c. search needs) (λ c. search needs)
-    (λ c. search needs) loop-again returns)
+minus-spec = tie.close (tie.spec (λ c κs. search needs) (λ c κs. search needs) (λ c κs. search needs) returns)

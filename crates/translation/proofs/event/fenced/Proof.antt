@@ -14,9 +14,6 @@ abbrev μ-loop : tie.MeasureT-loop
 loop-holds : tie.Need-loop-holds Inv-loop μ-loop
 loop-holds c = (search needs, passed-none _ _ (c .before .pre))
 
-is-fence-of-requires : tie.Need-is-fence-of-requires Inv-loop μ-loop
-is-fence-of-requires c κs = (c .before .loop .inv .1 .source, search needs)
-
 returns : tie.Need-returns Inv-loop μ-loop
 returns c = passed-here _ _ _ _ (c .before .is-fence-of .ensures) (c .if1 .taken) (c .before .before .loop-test .taken) (c .before .before .before .loop .inv .1)
 
@@ -28,5 +25,4 @@ returns-2 c = passed-all _ _ _ (c .loop-test .left) (c .before .loop .inv .1)
 
 pub fenced-spec : {M : Type 1} → statement M
 fenced-spec =
-    tie.close
-    (tie.spec Inv-loop μ-loop loop-holds is-fence-of-requires returns (λ c. search needs) (λ c. search needs) loop-again returns-2)
+    tie.close (tie.spec Inv-loop μ-loop loop-holds (λ c κs. search needs) returns (λ c. search needs) (λ c. search needs) loop-again returns-2)

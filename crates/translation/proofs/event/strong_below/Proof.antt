@@ -20,9 +20,6 @@ loop-holds c = (search needs, search needs, counted-none _ (c .before .pre .0))
 is-flagged-requires : tie.Need-is-flagged-requires Inv-loop μ-loop
 is-flagged-requires c κs = sized _ (c .before .loop .inv .2 .source)
 
-add-n : tie.Need-add-n Inv-loop μ-loop
-add-n c = (let inv = c .before .before .before .loop .inv in omega (arith, inv .2 .most))
-
 loop-again : tie.Need-loop-again Inv-loop μ-loop
 loop-again c =
     let turn = c .before .before in
@@ -38,5 +35,4 @@ returns c = counted-all _ _ _ _ (omega arith) (c .before .loop .inv .2)
 
 pub strong-below-spec : {M : Type 1} → statement M
 strong-below-spec =
-    tie.close
-    (tie.spec Inv-loop μ-loop loop-holds is-flagged-requires add-n (λ c. search needs) (λ c. search needs) loop-again returns)
+    tie.close (tie.spec Inv-loop μ-loop loop-holds is-flagged-requires (λ c. search needs) (λ c. search needs) (λ c. search needs) loop-again returns)

@@ -11,11 +11,7 @@ links-requires-2 : tie.Need-links-requires-2
 links-requires-2 c κs = readable _ (c .before .before .pre)
 
 returns : tie.Need-returns
-returns c =
-    let steps = c .before .before .before .before .before in
-    let links = steps .before .before in
-    ctrl-is _ (links .before .before .pre) _ _ _ _ _ _ _ _ (links .links .ensures) (steps .before .links2 .ensures) (steps .target-rows .ensures) (c .before .before .before .before .then .ensures)
-    (c .before .before .before .target-rows2 .ensures) (c .before .before .or .ensures) (c .before .or2 .ensures) (c .inverse .ensures)
+returns c = cc (ctrl-is _ (c .before .before .before .before .before .before .before .before .before .pre))
 
 pub ctrl-spec : {M : Type 1} → statement M
 ctrl-spec =

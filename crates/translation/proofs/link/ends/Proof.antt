@@ -21,9 +21,6 @@ loop-holds c = (let pre = c .before .pre in (search needs, ending-start _ _ (pre
 links-up-to-requires : tie.Need-links-up-to-requires Inv-loop μ-loop
 links-up-to-requires c κs = (let inv = c .before .loop .inv in let w = inv .1 .counted in (inv .2, event-counted _ _ _ _ w (c .loop-test .taken), w .same))
 
-cast-at : tie.Need-cast-at Inv-loop μ-loop
-cast-at c = record { fits = omega (arith, c .links-up-to .ensures .1) }
-
 array-write-at : tie.Need-array-write-at Inv-loop μ-loop
 array-write-at c = (let inv = c .before .before .loop .inv in omega (arith, c .before .loop-test .taken, inv .1 .counted .events, most-events _ (inv .2 .source)))
 
@@ -37,4 +34,6 @@ returns : tie.Need-returns Inv-loop μ-loop
 returns c = ending-all _ _ _ _ _ (c .before .loop .inv .1) (omega arith)
 
 pub ends-spec : {M : Type 1} → statement M
-ends-spec = tie.close (tie.spec Inv-loop μ-loop loop-holds links-up-to-requires cast-at array-write-at add-b (λ c. search needs) loop-again returns)
+ends-spec =
+    tie.close
+    (tie.spec Inv-loop μ-loop loop-holds links-up-to-requires (λ c. search needs) array-write-at add-b (λ c. search needs) loop-again returns)

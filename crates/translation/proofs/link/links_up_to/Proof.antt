@@ -14,9 +14,6 @@ Inv-loop file b n rows m₀ t₀ m t = (t ≤ 8) × LinksCounted file b t m × R
 abbrev μ-loop : tie.MeasureT-loop
 μ-loop file b n rows m₀ t₀ m t = 8 - t
 
-rows-requires : tie.Need-rows-requires Inv-loop μ-loop
-rows-requires c κs = (c .before .pre .0, c .before .pre .1)
-
 loop-holds : tie.Need-loop-holds Inv-loop μ-loop
 loop-holds c = (let pre = c .before .before .pre in (search needs, links-start _ _ (pre .0 .source) _ (pre .2), c .rows .ensures))
 
@@ -32,5 +29,5 @@ returns c = links-all _ _ _ _ (c .before .loop .inv .1) (omega arith)
 pub links-up-to-spec : {M : Type 1} → statement M
 links-up-to-spec =
     tie.close
-    (tie.spec Inv-loop μ-loop rows-requires loop-holds (λ c. search needs) (λ c. search needs) (λ c κs. search needs) add-m (λ c. search needs)
-    (λ c. search needs) loop-again returns)
+    (tie.spec Inv-loop μ-loop (λ c κs. search needs) loop-holds (λ c. search needs) (λ c. search needs) (λ c κs. search needs) add-m
+    (λ c. search needs) (λ c. search needs) loop-again returns)

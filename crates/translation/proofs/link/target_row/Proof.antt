@@ -1,9 +1,10 @@
 -- `link::target_row` meets its contract, by cases.
 use mathlib.Core.Path.{sym, _∙_}
+use mathlib.Core.Bool.{true, false}
 use borrow.Author.Tests.{not-true, not-false}
 use Rattle.layout.proofs.FieldLaws.{recorded-bounds}
 use Rattle.translation.proofs.SourceFacts.{sized}
-use Rattle.translation.proofs.LinkRows.{old-new, exclusive-old, exclusive-none, exclusive-some, after-none, after-some}
+use Rattle.translation.proofs.LinkRows.{old-new, target-none, target-one, starts-recorded}
 use borrow.Author.Needs.{needs}
 use Rattle.translation.proofs.link.target_row.Statement.{statement}
 use Rattle.translation.proofs.link.target_row.Tie as tie
@@ -14,19 +15,19 @@ is-flagged-requires c κs = sized _ (c .before .before .pre)
 returns : tie.Need-returns
 returns c =
     let start = c .before .before .before .before .before in
-    exclusive-none _ (start .pre) _ _ _ _ (c .before .before .is-flagged .ensures) (not-true _ (c .before .if2 .taken)) (c .none .ensures) (c .before .before .before .if1 .taken)
+    rw (c .before .before .before .if1 .taken) (target-none _ (start .pre) true _ (c .before .before .is-flagged .ensures) (not-true _ (c .before .if2 .taken)) (c .none .ensures))
 
 controlled-requires : tie.Need-controlled-requires
 controlled-requires c κs =
     let start = c .before .before .before .before .before in
-    let within = exclusive-old _ (start .pre) _ _ (c .before .before .is-flagged .ensures) (not-false _ (c .before .if2 .left)) in
+    let within = starts-recorded _ (start .pre) true _ (sym (c .before .before .is-flagged .ensures) ∙ not-false _ (c .before .if2 .left)) in
     (start .pre, within .0, within .1)
 
 returns-2 : tie.Need-returns-2
 returns-2 c =
     let read = c .before .before .before .before in
     let start = read .before .before .before in
-    exclusive-some _ (start .pre) _ _ _ _ _ _ (read .is-flagged .ensures) (not-false _ (c .before .before .before .if2 .left)) (c .before .before .none2 .ensures) (c .with .ensures) (c .before .controlled .ensures .0) (read .before .if1 .taken)
+    rw (read .before .if1 .taken) (target-one _ (start .pre) true _ (read .is-flagged .ensures) (not-false _ (c .before .before .before .if2 .left)) (c .before .before .none2 .ensures) (c .with .ensures) (c .before .controlled .ensures .0))
 
 is-recorded-requires : tie.Need-is-recorded-requires
 is-recorded-requires c κs = sized _ (c .before .before .pre)
@@ -34,7 +35,7 @@ is-recorded-requires c κs = sized _ (c .before .before .pre)
 returns-3 : tie.Need-returns-3
 returns-3 c =
     let start = c .before .before .before .before .before in
-    after-none _ (start .pre) _ _ _ _ (c .before .before .is-recorded .ensures) (not-true _ (c .before .if3 .taken)) (c .none3 .ensures) (c .before .before .before .if1 .left)
+    rw (c .before .before .before .if1 .left) (target-none _ (start .pre) false _ (c .before .before .is-recorded .ensures) (not-true _ (c .before .if3 .taken)) (c .none3 .ensures))
 
 after-requires : tie.Need-after-requires
 after-requires c κs =
@@ -46,7 +47,7 @@ returns-4 : tie.Need-returns-4
 returns-4 c =
     let event = c .before .before .before .before in
     let start = event .before .before .before in
-    after-some _ (start .pre) _ _ _ _ _ _ (event .is-recorded .ensures) (not-false _ (c .before .before .before .if3 .left)) (c .before .before .none4 .ensures) (c .with2 .ensures) (c .before .after .ensures .0) (event .before .if1 .left)
+    rw (event .before .if1 .left) (target-one _ (start .pre) false _ (event .is-recorded .ensures) (not-false _ (c .before .before .before .if3 .left)) (c .before .before .none4 .ensures) (c .with2 .ensures) (c .before .after .ensures .0))
 
 pub target-row-spec : {M : Type 1} → statement M
 target-row-spec =

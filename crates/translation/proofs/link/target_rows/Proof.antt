@@ -18,9 +18,6 @@ abbrev μ-loop : tie.MeasureT-loop
 loop-holds : tie.Need-loop-holds Inv-loop μ-loop
 loop-holds c = (search needs, c .before .before .pre, rows-none-of _ _ _ (search needs) (c .empty .ensures))
 
-target-row-requires : tie.Need-target-row-requires Inv-loop μ-loop
-target-row-requires c κs = c .before .loop .inv .1
-
 loop-again : tie.Need-loop-again Inv-loop μ-loop
 loop-again c =
     let turn = c .before in
@@ -33,5 +30,5 @@ returns c = rows-all _ _ _ _ (c .loop-test .left) (c .before .loop .inv .2) (tar
 pub target-rows-spec : {M : Type 1} → statement M
 target-rows-spec =
     tie.close
-    (tie.spec Inv-loop μ-loop (λ c κs. search needs) loop-holds target-row-requires (λ c. search needs) (λ c. search needs) (λ c. search needs)
+    (tie.spec Inv-loop μ-loop (λ c κs. search needs) loop-holds (λ c κs. search needs) (λ c. search needs) (λ c. search needs) (λ c. search needs)
     (λ c. search needs) loop-again returns)

@@ -1,8 +1,11 @@
 -- `write::header` meets its contract, byte by byte.
 use native.Mathlib.Omega.{arith}
+use Rattle.layout.specs.Chains.{startOf}
+use Rattle.translation.specs.Contents.{contents}
+use Rattle.translation.specs.Translate.{translated}
+use Rattle.translation.specs.Encode.{header}
 use Rattle.translation.proofs.SourceFacts.{sized}
 use Rattle.translation.proofs.Bounds.{most-events, most-links}
-use Rattle.translation.proofs.WriteLaws.{header-is}
 use Rattle.translation.proofs.write.header.Statement.{statement}
 use Rattle.translation.proofs.write.header.Tie as tie
 
@@ -28,7 +31,8 @@ shared-slice-read-t15 : tie.Need-shared-slice-read-t15
 shared-slice-read-t15 c = omega (arith, sized _ (c .before .before .before .before .before .pre .0) .long)
 
 returns : tie.Need-returns
-returns c = (let pre = c .before .before .before .before .before .pre in header-is _ (pre .0) _ _ (pre .1) (pre .2))
+unfolding header translated contents startOf
+returns c = cc
 
 pub header-spec : {M : Type 1} → statement M
 header-spec =

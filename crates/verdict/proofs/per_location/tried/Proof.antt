@@ -11,7 +11,7 @@ use Rattle.models.specs.Rules.{perLocation}
 use Rattle.verdict.specs.Base.{baseOf}
 use Rattle.verdict.specs.Shown.{Hold, Tried}
 use Rattle.verdict.proofs.ShownLaws.{tried-broken}
-use Rattle.verdict.proofs.TermLaws.{holds, given, is-union, is-minus, is-plus}
+use Rattle.verdict.proofs.TermLaws.{holds, given, is-plus, terms}
 use borrow.Author.Needs.{needs}
 use Rattle.verdict.proofs.per_location.tried.Statement.{statement}
 use Rattle.verdict.proofs.per_location.tried.Tie as tie
@@ -40,12 +40,7 @@ hold-2 c t = c .before .before .completeness .ensures (perLocation t) (ring (bas
 -- Rule 3.
 steps-are : (c : tie.After-or3) → Given (from-or3 c) → edge (c .or3 .result) ≡ ring (base (from-or3 c))
 unfolding eval baseOf
-steps-are c e =
-    let after-or = c .before .before in
-    holds (base (from-or3 c)) scPerLoc
-    (is-union
-    (is-union (is-union (given (after-or .before .before .and .ensures)) (given refl) (after-or .or .ensures)) (given e) (c .before .or2 .ensures))
-    (given refl) (c .or3 .ensures))
+steps-are c e = holds (base (from-or3 c)) scPerLoc (search terms depth 9)
 
 inside : (c : tie.After-or3) → Given (from-or3 c) → Inside (ring (base (from-or3 c)))
 inside c e = subst Inside (steps-are c e) (edge-inside _ (search needs))
@@ -56,7 +51,7 @@ tried-3 c e t =
     let after-or3 = c .before .before .before in
     let B = base (from-coherence c) in
     let s = steps-are after-or3 e in
-    let closed = holds B (perLocation t .coherent) (is-plus (given s) (c .before .before .closure .ensures)) in
+    let closed = holds B (perLocation t .coherent) (is-plus (c .before .before .closure .ensures) (given s)) in
     c .coherence .ensures (perLocation t) B (ring B) (ring B) (hold-2 (from-coherence c) t) (c .before .diagonal .ensures ∙ ap diagonal closed) s s
     (λ x h. (x, plus-closed _ (inside after-or3 e) x h))
 
@@ -75,7 +70,7 @@ returns-3 c =
     let coherence = else2 .before .before in
     let B = base (from-coherence coherence) in
     c .atomicity .ensures (perLocation t) B (ring B) (ring B) (tried-3 coherence e t .holds (else2 .if2 .left)) refl
-    (holds B frₑ (is-minus (given e) (given refl) (after-minus2 .before .minus .ensures))) (after-minus2 .minus2 .ensures)
+    (holds B frₑ (search terms)) (after-minus2 .minus2 .ensures)
 
 pub tried-spec : {M : Type 1} → statement M
 tried-spec =

@@ -9,14 +9,14 @@ use Rattle.verdict.proofs.rules.first_pair.Tie as tie
 
 -- The smallest event that the relation leads from.
 first : (c : tie.After-first) → c .first .result ≡ firstOf (edge (c .before .before .before .before .args .t1))
-first c = first-of _ _ _ _ _ (c .before .before .before .all .ensures) (c .before .before .inverse .ensures) (c .before .image .ensures) (c .first .ensures)
+first c = first-of _ (c .before .before .before .all .ensures) (c .before .before .inverse .ensures) (c .before .image .ensures) (c .first .ensures)
 
 returns : tie.Need-returns
-returns c = first-none _ _ _ (first (c .before)) (c .if1 .taken)
+returns c = first-none (first (c .before)) (c .if1 .taken)
 
 returns-2 : tie.Need-returns-2
 unfolding edge
-returns-2 c = first-pair _ _ _ _ (first (c .before .before .before)) refl (c .first2 .ensures)
+returns-2 c = first-pair (first (c .before .before .before)) refl (c .first2 .ensures)
 
 pub first-pair-spec : {M : Type 1} → statement M
 first-pair-spec =

@@ -55,7 +55,7 @@ returns : tie.Need-returns Inv-loop μ-loop Inv-pairs μ-pairs
 returns c =
     λ B p q r. let made = c .before .before .before in
     subst (λ (f : Rel). FirstPair f (c .before .pairs .a) (c .before .pairs .b))
-    (unordered-is _ _ _ _ _ _ (made .before .before .inverse .ensures) (made .before .or .ensures) (made .optional .ensures) B p q r)
+    (unordered-is (made .before .before .inverse .ensures) (made .before .or .ensures) (made .optional .ensures) B p q r)
     (pairs-none _ _ _ _ _ (c .before .pairs .inv) (c .pairs-test .left))
 
 returns-2 : tie.Need-returns-2 Inv-loop μ-loop Inv-pairs μ-pairs
@@ -66,7 +66,7 @@ returns-2 c =
     let turn = row .before .before .before in
     let made = turn .before .before .before in
     subst (λ (f : Rel). FirstPair f (turn .before .pairs .a) (loop .loop .b))
-    (unordered-is _ _ _ _ _ _ (made .before .before .inverse .ensures) (made .before .or .ensures) (made .optional .ensures) B p q r)
+    (unordered-is (made .before .before .inverse .ensures) (made .before .or .ensures) (made .optional .ensures) B p q r)
     (pairs-found _ _ _ _ (turn .before .pairs .inv) (turn .pairs-test .taken) _ _ (row .before .and .ensures) refl _ (loop .loop .inv)
     (c .before .before .loop-test .taken) (sym (c .before .has .ensures) ∙ not-true _ (c .if1 .taken)))
 

@@ -5,7 +5,7 @@ use Rattle.verdict.proofs.rules.unread.Statement.{statement}
 use Rattle.verdict.proofs.rules.unread.Tie as tie
 
 returns : tie.Need-returns
-returns c = unread-is _ _ _ _ _ (c .before .before .all .ensures) (c .before .image .ensures) (c .minus .ensures)
+returns c = unread-is (c .before .before .all .ensures) (c .before .image .ensures) (c .minus .ensures)
 
 pub unread-spec : {M : Type 1} → statement M
 unread-spec = tie.close (tie.spec (λ c κs. search needs) (λ c κs. search needs) (λ c κs. search needs) returns)

@@ -23,13 +23,13 @@ returns : tie.Need-returns
 returns c =
     λ M B s e hold p q. let test = c .before .before in
     let found = c .broken-ring .ensures in
-    shown-5 M B s e _ hold (subst Inside p (inside (test .before .before .before))) (event-found _ _ _ (test .first .ensures) (returning test _ p) (c .before .if1 .taken))
-    (found .0) (found .1 .0) (ring-same _ _ _ _ _ p p (found .1 .1))
+    shown-5 M B s e _ hold (subst Inside p (inside (test .before .before .before))) (event-found (test .first .ensures) (returning test _ p) (c .before .if1 .taken))
+    (found .0) (found .1 .0) (ring-same p p (found .1 .1))
 
 returns-2 : tie.Need-returns-2
 returns-2 c =
     λ M B s e hold p q. let test = c .before .before in
-    shown-0 M B s e _ hold (event-none _ _ _ (test .first .ensures) (returning test _ p) (c .before .if1 .left))
+    shown-0 M B s e _ hold (event-none (test .first .ensures) (returning test _ p) (c .before .if1 .left))
     (subst (Says (c .allowed .result) (answers 0)) (ap₂ (λ (r : Rel) (t : Set). order 64 r t) p q) (c .allowed .ensures))
 
 pub acyclicity-spec : {M : Type 1} → statement M

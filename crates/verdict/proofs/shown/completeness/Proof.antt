@@ -1,13 +1,13 @@
 -- `shown::completeness` meets its contract: what the searches for rules 1 and 2 find or do not find.
 use mathlib.Core.Path.{_≡_, refl, ap, _∙_}
-use mathlib.Core.Bool.{false}
-use Rattle.relation.specs.Rel.{some, least, nodes}
+use Rattle.relation.specs.Rel.{least, nodes}
 use Rattle.relation.specs.Bits.{bit}
 use Rattle.models.specs.Graph.{Base}
-use Rattle.models.specs.Rules.{anywhere, unread, unordered}
+use Rattle.models.specs.Rules.{Model, first, unread, unordered, failures}
+use Rattle.models.proofs.FirstLaws.{at}
 use Rattle.verdict.specs.Base.{baseOf}
-use Rattle.verdict.specs.Shown.{FirstPair}
-use Rattle.verdict.proofs.ShownLaws.{event-found, event-none, pair-none, pair-bounds, hold-1, hold-2, tried-none, tried-1, tried-2}
+use Rattle.verdict.specs.Shown.{FirstPair, Hold}
+use Rattle.verdict.proofs.ShownLaws.{event-found, event-none, pair-none, pair-bounds, next-rule, tried-none, tried-1, tried-2}
 use borrow.Author.Needs.{needs}
 use Rattle.verdict.proofs.shown.completeness.Statement.{statement}
 use Rattle.verdict.proofs.shown.completeness.Tie as tie
@@ -27,35 +27,34 @@ unread-is : (c : tie.After-first) → bit (c .before .unread .result) ≡ unread
 unfolding baseOf
 unread-is c = c .before .unread .ensures (base (from-first c)) refl refl
 
-holds-1 : (c : tie.Else1) → some nodes (unread nodes (base (from-first (c .before)))) ≡ false
-holds-1 c = event-none _ _ _ (c .before .first .ensures) (unread-is (c .before)) (c .if1 .left)
+hold-1 : (c : tie.Else1) (M : Model) → Hold 1 M (base (from-first (c .before)))
+unfolding failures at first
+hold-1 c M = next-rule M _ 0 refl (event-none (c .before .first .ensures) (unread-is (c .before)) (c .if1 .left))
 
 unordered-is : (c : tie.After-unordered) → FirstPair (unordered nodes (base (from-unordered c))) (c .unordered .result .first) (c .unordered .result .second)
 unfolding baseOf
 unordered-is c = c .unordered .ensures (base (from-unordered c)) refl refl refl
 
-holds-2 : (c : tie.Else2) → anywhere nodes (unordered nodes (base (from-unordered (c .before .before)))) ≡ false
-holds-2 c = pair-none _ _ _ (unordered-is (c .before .before)) (c .if2 .left)
-
 returns : tie.Need-returns
 returns c =
     λ M s e. let read = c .before .before in
-    tried-1 M _ s e _ (event-found _ _ _ (read .first .ensures) (unread-is read) (c .before .if1 .taken)) _
+    tried-1 M _ s e _ (event-found (read .first .ensures) (unread-is read) (c .before .if1 .taken))
     (read .first .ensures ∙ ap (least 64) (unread-is read)) (c .broken-event .ensures)
 
 broken-pair-requires : tie.Need-broken-pair-requires
-broken-pair-requires c κs = pair-bounds _ _ _ (unordered-is (c .before .before)) (c .if2 .taken)
+broken-pair-requires c κs = pair-bounds (unordered-is (c .before .before)) (c .if2 .taken)
 
 returns-2 : tie.Need-returns-2
 returns-2 c =
     λ M s e. let writes = c .before .before .before in
-    tried-2 M _ s e _ (hold-1 M _ (holds-1 (writes .before .before .before .before))) _ _ (unordered-is writes)
+    tried-2 M _ s e _ (hold-1 (writes .before .before .before .before) M) (unordered-is writes)
     (c .before .if2 .taken) (c .broken-pair .ensures)
 
 returns-3 : tie.Need-returns-3
+unfolding failures at
 returns-3 c =
     λ M s e. let writes = c .before .before .before in
-    tried-none M _ s e _ 2 (c .unbroken .ensures) (hold-2 M _ (hold-1 M _ (holds-1 (writes .before .before .before .before))) (holds-2 (c .before)))
+    tried-none M _ s e _ 2 (c .unbroken .ensures) (next-rule M _ 1 (hold-1 (writes .before .before .before .before) M) (pair-none (unordered-is writes) (c .before .if2 .left)))
 
 pub completeness-spec : {M : Type 1} → statement M
 completeness-spec =

@@ -1,0 +1,2 @@
+-- Laws that the proofs of `verdicts` share.
+pub mod ByModelLaws

@@ -1,0 +1,2 @@
+-- The definitions that the contracts of `verdicts` cite.
+pub mod ByModel
