@@ -146,7 +146,7 @@ module _ {B : Base} where
   held-each size l w = record { clauses = each-tested w _ l }
 
 -- By these and `terms` `search` finds that a function's calls compute the clauses.
-pub ruleset each = (each-none, each-empty, each-more)
+pub ruleset arrays = (each-none, each-empty, each-more)
 
 module _ (size : ℕ) (cs : List Clause) (B : Base) (grids : List (List (List ℕ))) (w : Held size cs B grids) where
   -- The grid at a place.

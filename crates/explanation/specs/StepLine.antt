@@ -35,8 +35,8 @@ stepLine word cs step = parted (word ∷ decimal (getD step 0 0) ∷ decimal (ge
 abbrev pub stepLines : List ℕ → List Clause → List (List ℕ) → List ℕ
 stepLines word cs steps = joined (map (stepLine word cs) steps)
 
--- The rest says what the parts do. A name is found among words that single spaces part, byte by byte, with the number of words from here to the one that is wanted, which is 1
--- within it.
+-- The rest says what the parts do. A name is found among words that single spaces part, byte by byte, with the number of words from here to
+-- the one that is wanted, which is 1 within it.
 abbrev pub leftAt : Bool → ℕ → ℕ
 leftAt true zero = zero
 leftAt true (suc m) = m

@@ -1,22 +1,13 @@
--- Laws of the bytes at the start of an array, and of a line as a text that is put into an array.
+-- Laws of a line as a text that is put into an array.
 use mathlib.Core.Path.{_≡_, sym, ap, _∙_}
 use mathlib.Core.List.{List, _++_}
 use Prim.Native.Nat.{ℕ, _+_, _≤_}
 use native.Mathlib.Omega.{arith}
 use lib.ListN.{length, take}
-use lib.Seq.{length-take-le}
 use Rattle.lines.specs.declared.Text.{Text}
 use Rattle.lines.specs.Put.{bytes}
 use Rattle.output.specs.Output.{placed}
-use Rattle.output.proofs.OutputLaws.{placed-extends, placed-begins}
-
--- The first n of an array of m bytes.
-module _ (l : List ℕ) {n m : ℕ} (h : n ≤ m) (long : length l ≡ m) where
-  pub within : n ≤ length l
-  within = omega arith
-
-  pub first-size : n ≡ length (take n l)
-  first-size = sym (length-take-le n l within)
+use Rattle.output.proofs.OutputLaws.{first-size, placed-extends, placed-begins}
 
 module _ (t : Text) (long : length (t .at) ≡ 320) (h : t .len ≤ 320) where
   pub text-size : length (bytes t) ≡ t .len

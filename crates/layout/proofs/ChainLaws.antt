@@ -10,6 +10,7 @@ use borrow.Author.Tests.{eq-eqb, ne-eqb, le-leb, lt-leb}
 use lib.Dec.{eqb, leb}
 use lib.ListN.{length, getD, set, replicate, length-set}
 use lib.Seq.{getD-set-same, getD-set-other}
+use Rattle.relation.proofs.ByteLaws.{zero-at}
 use Rattle.relation.proofs.Truth.{is-false, and-left, and-right}
 use Rattle.layout.specs.Chains.{among, follow, chain, met, fresh, each, allMet, onceEach, pushed, Marked, Followed}
 
@@ -35,12 +36,7 @@ follow-in limit next n x d h = rw (ne-eqb x 0 d, follow) (rw (le-leb x limit h))
 -- Marks.
 pub marked-none : Marked [] (replicate 256 0)
 unfolding among
-marked-none = record { long = refl; each = λ x h. ap (λ (n : ℕ). eqb n 1) (zeros 256 x) }
-  where
-    zeros : (n x : ℕ) → getD {A = ℕ} (replicate n 0) x 0 ≡ 0
-    zeros zero x = refl
-    zeros (suc n) zero = refl
-    zeros (suc n) (suc x) = zeros n x
+marked-none = record { long = refl; each = λ x h. ap (λ (n : ℕ). eqb n 1) (zero-at 256 x) }
 
 pub marked-more : (l at : List ℕ) (x : ℕ) → x < 256 → Marked l at → Marked (x ∷ l) (set at x 1)
 unfolding among

@@ -60,7 +60,8 @@ module _ {E : Type 0} {G : Graph E} where
           ]
 
       -- Release sequences within an order that holds co, external rf and rmw.
-      module _ (decided : (a b : E) → Dec (G .po a b)) {O : E → E → Type 0} (O-co : (a b : E) → G .co a b → O a b) (O-rfe : (a b : E) → ⟦ rfₑ ⟧ G a b → O a b) (O-rmw : (a b : E) → G .rmw a b → O a b) where
+      module _ (decided : (a b : E) → Dec (G .po a b)) {O : E → E → Type 0} (O-co : (a b : E) → G .co a b → O a b)
+          (O-rfe : (a b : E) → ⟦ rfₑ ⟧ G a b → O a b) (O-rmw : (a b : E) → G .rmw a b → O a b) where
         -- Optional po-loc between writes.
         pub loc-writes : {a b : E} → G .set W a → G .set W b → ⟦ opt po-loc ⟧ G a b → Weak (Plus O) a b
         loc-writes {a} {b} v w l = weak-step (λ h. O-co a b (po-co v w (h .1) (h .0))) l

@@ -151,7 +151,8 @@ module _ {E : Type 0} (r : Recording E) where
   step-cases a b h = elim (T-or (r .link 2 a b) (r .initial a && r .recorded b && write r b && sameLocation r a b) h) [
     | inl k ↦ linked k
     | inr k ↦ (let l = T-and-left (r .initial a && r .recorded b && write r b) (sameLocation r a b) k in let i = T-and-left (r .initial a && r .recorded b) (write r b) l in
-        initially (T-and-left (r .initial a) (r .recorded b) i) (T-and-right (r .initial a) (r .recorded b) i) (T-and-right (r .initial a && r .recorded b) (write r b) l) (T-and-right (r .initial a && r .recorded b && write r b) (sameLocation r a b) k))
+        initially (T-and-left (r .initial a) (r .recorded b) i) (T-and-right (r .initial a) (r .recorded b) i)
+        (T-and-right (r .initial a && r .recorded b) (write r b) l) (T-and-right (r .initial a && r .recorded b && write r b) (sameLocation r a b) k))
   ]
 
   pub step-intro : (a b : E) → CoStep a b → T (coStep r a b)

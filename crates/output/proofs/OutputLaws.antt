@@ -1,4 +1,4 @@
--- Laws of writing into an output: byte by byte, and one piece after the other.
+-- Laws of writing into an output: byte by byte, and one piece after the other; and of the first bytes of an array.
 use mathlib.Core.Path.{_≡_, refl, sym, ap, ap₂, _∙_}
 use mathlib.Core.List.{List, [], _++_, append-nil, append-assoc}
 use Prim.Native.Nat.{ℕ, _+_, _-_, _<_, _≤_}
@@ -102,3 +102,11 @@ part-placed d start x part h e =
     ap₂ (λ (p q : List ℕ). take start d ++ (p ++ q)) (e ∙ ap (λ (l : List ℕ). placed l 0 x) whole) none
     ∙ ap (_++_ (take start d)) (append-nil (x ++ drop (0 + length x) rest)
     ∙ ap (_++_ x) (ap (λ (k : ℕ). drop k rest) (zero-add (length x)) ∙ drop-drop (length x) start d))
+
+-- The first n of an array of m bytes.
+module _ (l : List ℕ) {n m : ℕ} (h : n ≤ m) (long : length l ≡ m) where
+  pub within : n ≤ length l
+  within = omega arith
+
+  pub first-size : n ≡ length (take n l)
+  first-size = sym (length-take-le n l within)

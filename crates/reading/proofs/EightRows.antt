@@ -11,6 +11,7 @@ use Rattle.relation.specs.Bits.{bit}
 use Rattle.relation.proofs.ByteLaws.{bit-none}
 use Rattle.relation.proofs.GridLaws.{bit-nil}
 
+-- P holds of the set that each row holds, by the row's number.
 pub record Eight (P : ℕ → Set → Type 0) (h : List (List ℕ)) : Type 0 where
   pub long : length h ≡ 8
   pub row : (v : ℕ) → v < 8 → P v (bit (getD h v []))

@@ -52,7 +52,7 @@ over f n x (inl e) = ap (left f n) e ∙ follow-end (links f) (nextLink f) n
 over f n x (inr h) = follow-none (links f) (nextLink f) n x h
 
 -- A walk along the links into b: the next is x, at most n are left, and of each of them q holds, which says that it lies within the file.
-pub record Walk (f : List ℕ) (q : ℕ → Bool) (b from n x : ℕ) : Type 0 where
+pub record LinkWalk (f : List ℕ) (q : ℕ → Bool) (b from n x : ℕ) : Type 0 where
   pub sized : Sized f
   pub low : 1 ≤ b
   pub high : b ≤ events f
@@ -69,11 +69,12 @@ pub record Here (f : List ℕ) (q : ℕ → Bool) (from n x : ℕ) : Type 0 wher
   pub good : q x ≡ true
   pub next : (y : ℕ) → y ≡ nextOf f from 4 x → follow (links f) (nextLink f) n x ≡ x ∷ follow (links f) (nextLink f) (n - 1) y
 
-abbrev pub HereOf : {f : List ℕ} {q : ℕ → Bool} {b from n x : ℕ} → Walk f q b from n x → Type 0
+-- The same of a walk.
+abbrev pub HereOf : {f : List ℕ} {q : ℕ → Bool} {b from n x : ℕ} → LinkWalk f q b from n x → Type 0
 HereOf {f} {q} {b} {from} {n} {x} w = Here f q from n x
 
 pub walk-start : {f : List ℕ} {q : ℕ → Bool} {b e n x : ℕ} → Sized f → 1 ≤ b → b ≤ events f → e ≡ events f → n ≡ links f → x ≡ firstLink f (b - 1)
-    → ((m : ℕ) → q m ≡ true → m ≤ links f) → allOf (linksInto f b) q ≡ true → Walk f q b (8 + 8 * e) (n + 1) x
+    → ((m : ℕ) → q m ≡ true → m ≤ links f) → allOf (linksInto f b) q ≡ true → LinkWalk f q b (8 + 8 * e) (n + 1) x
 walk-start {f} {q} {b} {e} {n} {x} s l h p i j k g =
     record {
       sized = s;
@@ -84,7 +85,7 @@ walk-start {f} {q} {b} {e} {n} {x} s l h p i j k g =
       rest = subst (λ (r : List ℕ). allOf r q ≡ true) (whole f b n x i j) g;
     }
 
-module _ {f : List ℕ} {q : ℕ → Bool} {b from n x : ℕ} (w : Walk f q b from n x) where
+module _ {f : List ℕ} {q : ℕ → Bool} {b from n x : ℕ} (w : LinkWalk f q b from n x) where
   pub walk-here : 0 < n → (x ≡ 0 → ⊥) → Here f q from n x
   unfolding allOf follow
   walk-here h d =
@@ -101,7 +102,7 @@ module _ {f : List ℕ} {q : ℕ → Bool} {b from n x : ℕ} (w : Walk f q b fr
             ∙ ap (λ (k : ℕ). x ∷ left f (n - 1) k) (sym (s ∙ ap (λ (k : ℕ). nextOf f k 4 x) (w .begins)));
       }
 
-  pub walk-on : {y : ℕ} → Here f q from n x → y ≡ nextOf f from 4 x → Walk f q b from (n - 1) y
+  pub walk-on : {y : ℕ} → Here f q from n x → y ≡ nextOf f from 4 x → LinkWalk f q b from (n - 1) y
   unfolding allOf
   walk-on {y} h s =
       record {
@@ -151,7 +152,7 @@ taken-start {f} {t} {b} {n} {x} e i s =
     }
 
 module _ {f : List ℕ} {t b n x : ℕ} {r : Set} (w : Taken f t b n x r) where
-  pub taken-done : {q : ℕ → Bool} {from : ℕ} → Walk f q b from n x → (x ≡ 0) ⊎ (n ≤ 0) → r ≡ inverse (decode f .link t) b
+  pub taken-done : {q : ℕ → Bool} {from : ℕ} → LinkWalk f q b from n x → (x ≡ 0) ⊎ (n ≤ 0) → r ≡ inverse (decode f .link t) b
   unfolding inverse decode leads some
   taken-done v e =
       fun-ext
@@ -194,5 +195,5 @@ module _ {f : List ℕ} {q : ℕ → Bool} {b from n x y v : ℕ} {h : List (Lis
   pub sorted-keep : 8 ≤ v → Sorted f b (n - 1) y h
   sorted-keep g = eight-keep w (λ t j u z. taken-keep z i s k (λ e. omega arith))
 
-pub sorted-done : {f : List ℕ} {q : ℕ → Bool} {b from n x : ℕ} {h : List (List ℕ)} → Sorted f b n x h → Walk f q b from n x → (x ≡ 0) ⊎ (n ≤ 0) → SourcesInto f b h
+pub sorted-done : {f : List ℕ} {q : ℕ → Bool} {b from n x : ℕ} {h : List (List ℕ)} → Sorted f b n x h → LinkWalk f q b from n x → (x ≡ 0) ⊎ (n ≤ 0) → SourcesInto f b h
 sorted-done w v e = record { long = w .long; row = λ t k. taken-done (w .row t k) v e }

@@ -259,6 +259,7 @@ pub record Placed (f : List ℕ) (k e b : ℕ) : Type 0 where
   pub next : nextEvent f e ≡ b
   pub few : events f ≤ 48
 
+-- The same of the event before the place j, in the loop.
 abbrev pub PlacedIn : {f : List ℕ} {len : ℕ} {at : List ℕ} {j : ℕ} {h : List (List ℕ)} → Backward f len at j h → ℕ → Type 0
 PlacedIn {f} {len} {at} {j} w b = Placed f (j - 1) (getD at (j - 1) 0) b
 

@@ -23,8 +23,9 @@ none-other : (tests : List Bool) (k : ℕ) → (1 ≤ k → suc (length tests) �
 none-other tests zero h = refl
 none-other tests (suc k) h = (let g = h (omega arith) in sym (List·getD-eq-default tests false (omega arith)))
 
-pub past : {t : ℕ} (k : ℕ) → (t ≡ k → ⊥) → k ≤ t → suc k ≤ t
-past k d h = omega (arith, d)
+-- At least k and not k.
+pub above : {t : ℕ} (k : ℕ) → (t ≡ k → ⊥) → k ≤ t → suc k ≤ t
+above k d h = omega (arith, d)
 
 -- What is legal, by the class, and no other class.
 module _ (s : Side) (L class mode flag location value : ℕ) (x : Bool) where

@@ -71,7 +71,7 @@ pub bit-in : (row : List ℕ) (j : ℕ) → j < 64 → bit row j ≡ on (getD ro
 unfolding bit
 bit-in row j h = ap (λ (b : Bool). b && on (getD row (j / 8) 0) (j % 8)) (lt-ltb j 64 h)
 
-zero-at : (n i : ℕ) → getD {A = ℕ} (replicate n 0) i 0 ≡ 0
+pub zero-at : (n i : ℕ) → getD {A = ℕ} (replicate n 0) i 0 ≡ 0
 zero-at zero i = refl
 zero-at (suc n) zero = refl
 zero-at (suc n) (suc i) = zero-at n i

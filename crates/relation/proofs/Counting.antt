@@ -3,6 +3,7 @@ use mathlib.Core.Path.{_≡_, refl, sym, ap, subst, _∙_}
 use mathlib.Core.Bool.{Bool, true, false, and-false, and-true}
 use mathlib.Core.Logic.{_⊎_, inl, inr}
 use Prim.Native.Nat.{ℕ, zero, suc, _+_, _*_, _/_, _<_, _≤_}
+use native.Mathlib.Numerals.{add-one}
 use native.Mathlib.Omega.{arith}
 use native.Mathlib.Nat.{add-suc, add-zero}
 use native.Mathlib.Decide.{ℕ-discrete, decLe, decLt}
@@ -17,6 +18,13 @@ count-yes n s e = rw (e, count)
 pub count-no : (n : ℕ) (s : Set) → s n ≡ false → count (suc n) s ≡ count n s
 unfolding count
 count-no n s e = rw (e, count)
+
+-- The same at n + 1, as code has it.
+pub count-next-yes : (n : ℕ) (s : Set) → s n ≡ true → count (n + 1) s ≡ count n s + 1
+count-next-yes n s e = rw (add-one n, add-one (count n s)) (count-yes n s e)
+
+pub count-next-no : (n : ℕ) (s : Set) → s n ≡ false → count (n + 1) s ≡ count n s
+count-next-no n s e = rw (add-one n) (count-no n s e)
 
 -- One number more is one member more, or none.
 pub count-cases : (n : ℕ) (s : Set) → ((s n ≡ true) × (count (suc n) s ≡ suc (count n s))) ⊎ ((s n ≡ false) × (count (suc n) s ≡ count n s))

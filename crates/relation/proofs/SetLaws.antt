@@ -1,13 +1,12 @@
--- Laws of sets of events: membership in a list, the least member, counting, and sets filled number by number.
+-- Laws of sets of events: given by a test, the least member, and sets collected number by number.
 use mathlib.Core.Path.{_≡_, refl, sym, ap, ap₂, subst, _∙_, fun-ext}
 use mathlib.Core.Bool.{Bool, true, false, _&&_, _||_, false≢true, or-false, and-false, and-true}
 use Prim.Native.Nat.{ℕ, zero, suc, _+_, _-_, _<_, _≤_}
-use native.Mathlib.Numerals.{add-one}
 use native.Mathlib.Omega.{arith}
 use native.Mathlib.Decide.{ℕ-discrete, decLt}
 use borrow.Author.Tests.{eq-eqb, ne-eqb, lt-ltb, le-ltb}
 use lib.Dec.{eqb, ltb}
-use Rattle.relation.specs.Rel.{Set, Next, empty, single, given, union, least, count}
+use Rattle.relation.specs.Rel.{Set, Next, empty, single, given, union, least}
 
 -- A set where a test holds.
 pub given-yes : (b : Bool) (s : Set) → b ≡ true → s ≡ given b s
@@ -166,30 +165,21 @@ upto-done k n s t h p out =
       | no g ↦ ap (λ (b : Bool). ltb j k && b) (out j (omega (arith, g))) ∙ and-false (ltb j k) ∙ sym (out j (omega (arith, g)))
     ])
 
--- t is filled so, up to k; s holds no number from 64 on.
-pub record Filled (s t : Set) (k : ℕ) : Type 0 where
+-- t is collected so, up to k; s holds no number from 64 on.
+pub record Collected (s t : Set) (k : ℕ) : Type 0 where
   pub high : k ≤ 64
   pub holds : t ≡ upto k s
   pub out : (m : ℕ) → 64 ≤ m → s m ≡ false
 
-pub filled-start : {s t : Set} → t ≡ empty → ((m : ℕ) → 64 ≤ m → s m ≡ false) → Filled s t 0
-filled-start p out = record { high = omega arith; holds = p ∙ upto-none _; out = out }
+pub collected-start : {s t : Set} → t ≡ empty → ((m : ℕ) → 64 ≤ m → s m ≡ false) → Collected s t 0
+collected-start p out = record { high = omega arith; holds = p ∙ upto-none _; out = out }
 
-module _ {s t : Set} {k : ℕ} (w : Filled s t k) where
-  pub filled-with : {u : Set} → k < 64 → s k ≡ true → u ≡ union t (single k) → Filled s u (k + 1)
-  filled-with h e p = record { high = omega arith; holds = p ∙ upto-with k s t (w .holds) e; out = w .out }
+module _ {s t : Set} {k : ℕ} (w : Collected s t k) where
+  pub collected-with : {u : Set} → k < 64 → s k ≡ true → u ≡ union t (single k) → Collected s u (k + 1)
+  collected-with h e p = record { high = omega arith; holds = p ∙ upto-with k s t (w .holds) e; out = w .out }
 
-  pub filled-keep : k < 64 → s k ≡ false → Filled s t (k + 1)
-  filled-keep h e = record { high = omega arith; holds = upto-keep k s t (w .holds) e; out = w .out }
+  pub collected-keep : k < 64 → s k ≡ false → Collected s t (k + 1)
+  collected-keep h e = record { high = omega arith; holds = upto-keep k s t (w .holds) e; out = w .out }
 
-  pub filled-all : 64 ≤ k → t ≡ s
-  filled-all h = upto-done k 64 s t h (w .holds) (w .out)
-
--- Counting.
-pub count-yes : (n : ℕ) (s : Set) → s n ≡ true → count (n + 1) s ≡ count n s + 1
-unfolding count
-count-yes n s e = rw (add-one n, e, count, add-one (count n s))
-
-pub count-no : (n : ℕ) (s : Set) → s n ≡ false → count (n + 1) s ≡ count n s
-unfolding count
-count-no n s e = rw (add-one n, e, count)
+  pub collected-all : 64 ≤ k → t ≡ s
+  collected-all h = upto-done k 64 s t h (w .holds) (w .out)

@@ -8,7 +8,8 @@ use native.Mathlib.Omega.{arith}
 use borrow.Author.Count.{below-more}
 use lib.Dec.{eqb}
 use Rattle.relation.specs.Rel.{count}
-use Rattle.relation.proofs.SetLaws.{count-yes, count-no, least-at, least-none}
+use Rattle.relation.proofs.SetLaws.{least-at, least-none}
+use Rattle.relation.proofs.Counting.{count-next-yes, count-next-no}
 use Rattle.models.specs.Recording as recording
 use Rattle.layout.specs.Layout.{events, eventByte}
 use Rattle.layout.specs.Decode.{decode}
@@ -36,12 +37,12 @@ module _ (f : List ℕ) where
   pub counted-yes : (w n : ℕ) (b : Bool) → b ≡ recording.flagged (decode f) 2 w → b ≡ true → Counted f w n → Counted f (w + 1) (n + 1)
   counted-yes w n b e p c =
       let is = sym (flagged-decoded f (c .source) 2 w) ∙ sym e ∙ p in
-      record { source = c .source; same = ap (λ (x : ℕ). x + 1) (c .same) ∙ sym (count-yes w (strong (contents f)) is); most = omega (arith, c .most) }
+      record { source = c .source; same = ap (λ (x : ℕ). x + 1) (c .same) ∙ sym (count-next-yes w (strong (contents f)) is); most = omega (arith, c .most) }
 
   pub counted-no : (w n : ℕ) (b : Bool) → b ≡ recording.flagged (decode f) 2 w → b ≡ false → Counted f w n → Counted f (w + 1) n
   counted-no w n b e p c =
       let is = sym (flagged-decoded f (c .source) 2 w) ∙ sym e ∙ p in
-      record { source = c .source; same = c .same ∙ sym (count-no w (strong (contents f)) is); most = omega (arith, c .most) }
+      record { source = c .source; same = c .same ∙ sym (count-next-no w (strong (contents f)) is); most = omega (arith, c .most) }
 
   pub counted-all : (w e n : ℕ) → w ≡ e → Counted f w n → (n ≡ count e (strong (contents f))) × (n ≤ e)
   counted-all w e n p c = (c .same ∙ ap (λ (x : ℕ). count x (strong (contents f))) p, omega (arith, c .most))

@@ -10,7 +10,7 @@ use borrow.Author.Tests.{le-leb}
 use lib.Dec.{leb}
 use lib.ListN.{length, length-append}
 use Rattle.relation.specs.Rel.{Set, inverse, least, count, Next}
-use Rattle.relation.proofs.SetLaws.{Least, least-is, count-yes}
+use Rattle.relation.proofs.SetLaws.{Least, least-is}
 use Rattle.output.specs.Output.{placed}
 use Rattle.output.proofs.OutputLaws.{Placing, placing-none, placing-more}
 use Rattle.translation.specs.Contents.{Contents, contents}
@@ -18,7 +18,7 @@ use Rattle.translation.specs.Translate.{newEvents, newLink, translated}
 use Rattle.translation.specs.Encode.{chained, records, isLink, linksBefore, linksUpTo, eventRecord, linkRecord, eventRecords, linkRecords}
 use Rattle.translation.specs.Translation.{chip}
 use Rattle.translation.specs.Parts.{Source, rowRecord, linkStretch}
-use Rattle.relation.proofs.Counting.{count-le, count-mono, count-none, count-lt, count-add, count-same}
+use Rattle.relation.proofs.Counting.{count-next-yes, count-le, count-mono, count-none, count-lt, count-add, count-same}
 use Rattle.translation.proofs.RecordLaws.{records-yes, records-none, records-length, records-add, records-same}
 use Rattle.translation.proofs.EncodeLaws.{event-size, link-size, events-length, links-length}
 use Rattle.translation.proofs.EncodedLinks.{digits, link-number, none-into-zero}
@@ -141,7 +141,7 @@ module _ {part₀ : List ℕ} {row : Set} {t last n : ℕ} where
     unfolding rowRecord
     row-next {x} {k} h p r next =
         let R = rowRecord t last n row in
-        let one-more = count-none (a + 1) k row (next .low) (next .before) ∙ count-yes a row (w .member h) in
+        let one-more = count-none (a + 1) k row (next .low) (next .before) ∙ count-next-yes a row (w .member h) in
         let after-it : m + 1 ≡ suc (n + count a row) = omega (arith, w .number) in
         let made : (x ∷ t ∷ a ∷ 0 ∷ []) ≡ R a = ap (λ (y : ℕ). y ∷ t ∷ a ∷ 0 ∷ []) (p ∙ ap (chained last) after-it) in
         let all = records-none R row (a + 1) k (next .low) (next .before) ∙ ap (records R row) (add-one a) ∙ records-yes R row a (w .member h) in

@@ -109,6 +109,7 @@ module _ (M : Model) (B : Base) (steps closing : Rel) (v : Verdict) where
 
   -- Rules 1 to k hold, and the next one is broken.
   module _ (k : ℕ) (hold : Hold k M B) (broken : at (failures nodes B M) k .1 ≡ true) where
+    -- Its number.
     abbrev number : ℕ
     number = at (failures nodes B M) k .0
 

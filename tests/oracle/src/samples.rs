@@ -1,4 +1,4 @@
-//! Samples by their names, for the worked examples.
+//! Samples by their names, for the worked examples and the litmus table.
 
 macro_rules! sample {
     ($name:literal) => {

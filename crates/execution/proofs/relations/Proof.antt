@@ -9,10 +9,19 @@ use Rattle.execution.proofs.relations.Statement.{statement}
 use Rattle.execution.proofs.relations.Tie as tie
 
 coherence-requires : tie.Need-coherence-requires
-coherence-requires c κs = (sized _ (c .before .before .before .before .before .before .before .before .pre), links-of (c .before .before .before .before .rows-by-type .ensures) 2 (omega arith) (omega arith) (c .inverse2 .ensures), c .before .before .before .before .before .before .same-location .ensures)
+coherence-requires c κs =
+    let after-rows = c .before .before .before .before in
+    let after-same = after-rows .before .before in (
+      sized _ (after-same .before .before .pre),
+      links-of (after-rows .rows-by-type .ensures) 2 (omega arith) (omega arith) (c .inverse2 .ensures),
+      after-same .same-location .ensures,
+    )
 
 control-requires : tie.Need-control-requires
-control-requires c κs = (c .before .before .before .before .before .before .before .before .before .before .before .before .before .before .before .before .before .pre, c .before .before .before .before .before .before .before .before .before .before .before .before .before .before .program-order .ensures, links-of (c .before .before .before .before .before .before .before .before .before .before .before .before .before .rows-by-type .ensures) 6 (omega arith) (omega arith) (c .inverse6 .ensures))
+control-requires c κs =
+    let after-rows = c .before .before .before .before .before .before .before .before .before .before .before .before .before in
+    let after-po = after-rows .before in
+    (after-po .before .before .before .pre, after-po .program-order .ensures, links-of (after-rows .rows-by-type .ensures) 6 (omega arith) (omega arith) (c .inverse6 .ensures))
 
 returns : tie.Need-returns
 unfolding base

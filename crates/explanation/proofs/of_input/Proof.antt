@@ -1,5 +1,5 @@
 -- `of_input` meets its contract: what is read of an input gets what the input gets.
-use Rattle.judgement.proofs.TextLaws.{first-size}
+use Rattle.output.proofs.OutputLaws.{first-size}
 use Rattle.judgement.proofs.PrintLaws.{input-text}
 use borrow.Author.Needs.{needs}
 use Rattle.explanation.proofs.of_input.Statement.{statement}

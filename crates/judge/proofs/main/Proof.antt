@@ -1,5 +1,5 @@
 -- `main` is safe: what is printed fits the array.
-use Rattle.judgement.proofs.TextLaws.{within, first-size}
+use Rattle.output.proofs.OutputLaws.{within, first-size}
 use borrow.Author.Needs.{needs}
 use Rattle.judge.proofs.main.Statement.{statement}
 use Rattle.judge.proofs.main.Tie as tie

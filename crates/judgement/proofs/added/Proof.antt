@@ -2,7 +2,8 @@
 use mathlib.Core.Path.{_≡_, refl}
 use native.Mathlib.Omega.{arith}
 use lib.ListN.{length}
-use Rattle.judgement.proofs.TextLaws.{within, first-size, text-size, text-added}
+use Rattle.output.proofs.OutputLaws.{within, first-size}
+use Rattle.judgement.proofs.TextLaws.{text-size, text-added}
 use borrow.Author.Needs.{needs}
 use Rattle.judgement.proofs.added.Statement.{statement}
 use Rattle.judgement.proofs.added.Tie as tie

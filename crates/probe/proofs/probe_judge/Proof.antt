@@ -1,7 +1,7 @@
 -- `probe_judge` meets its contract: the lines are stored, or nothing is.
 use native.Mathlib.Omega.{arith}
 use Rattle.output.proofs.FillLaws.{fills-few}
-use Rattle.judgement.proofs.TextLaws.{within, first-size}
+use Rattle.output.proofs.OutputLaws.{within, first-size}
 use Rattle.probe.proofs.ProbeLaws.{stored}
 use borrow.Author.Needs.{needs}
 use Rattle.probe.proofs.probe_judge.Statement.{statement}

@@ -5,7 +5,7 @@ use Prim.Native.Nat.{ℕ}
 use native.Mathlib.Omega.{arith}
 use lib.ListN.{getD}
 use Rattle.output.proofs.FillLaws.{fills-refused, fills-none, fills-wrote}
-use Rattle.judgement.proofs.TextLaws.{within, first-size}
+use Rattle.output.proofs.OutputLaws.{within, first-size}
 use Rattle.probe.specs.Calls.{codedAnswer}
 use Rattle.probe.proofs.ProbeLaws.{stored}
 use borrow.Author.Needs.{needs}

@@ -1,6 +1,7 @@
 -- `page::line` meets its contract.
 use native.Mathlib.Omega.{arith}
-use Rattle.judgement.proofs.TextLaws.{within, first-size, text-size, text-begins}
+use Rattle.output.proofs.OutputLaws.{within, first-size}
+use Rattle.judgement.proofs.TextLaws.{text-size, text-begins}
 use borrow.Author.Needs.{needs}
 use Rattle.judgement.proofs.page.line.Statement.{statement}
 use Rattle.judgement.proofs.page.line.Tie as tie

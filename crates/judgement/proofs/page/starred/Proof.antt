@@ -1,5 +1,5 @@
 -- `page::starred` meets its contract: the array for the page is never too short.
-use Rattle.judgement.proofs.TextLaws.{within, first-size}
+use Rattle.output.proofs.OutputLaws.{within, first-size}
 use Rattle.judgement.proofs.PageLaws.{page-not-refused, page-begins}
 use borrow.Author.Needs.{needs}
 use Rattle.judgement.proofs.page.starred.Statement.{statement}

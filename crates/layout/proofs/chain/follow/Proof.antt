@@ -11,7 +11,10 @@ use Rattle.layout.proofs.chain.follow.Statement.{statement}
 use Rattle.layout.proofs.chain.follow.Tie as tie
 
 abbrev Inv-loop : tie.InvT-loop
-Inv-loop file from size limit marks₀ cursor₀ n₀ marks cursor n = Linked file 0 0 0 from size limit × (cursor .at < 256) × ((l : List ℕ) → Marked l marks₀ → Going limit (nextOf file from size) l (chain limit (nextOf file from size) (cursor₀ .at)) n (cursor .at) marks) × (length marks ≡ length marks₀) × (length marks₀ ≡ 256)
+Inv-loop file from size limit marks₀ cursor₀ n₀ marks cursor n =
+    Linked file 0 0 0 from size limit × (cursor .at < 256)
+    × ((l : List ℕ) → Marked l marks₀ → Going limit (nextOf file from size) l (chain limit (nextOf file from size) (cursor₀ .at)) n (cursor .at) marks)
+    × (length marks ≡ length marks₀) × (length marks₀ ≡ 256)
 
 abbrev μ-loop : tie.MeasureT-loop
 μ-loop file from size limit marks₀ cursor₀ n₀ marks cursor n = n
@@ -52,8 +55,13 @@ loop-again : tie.Need-loop-again Inv-loop μ-loop
 loop-again c =
     let within = c .before .before .before in
     let at-loop = within .before .before .before in
-    let inv = at-loop .loop .inv in
-    (inv .0, c .moved .ensures .1, (λ l w. going-on (inv .2 l w) _ _ (omega arith) (within .before .if1 .left) (within .if2 .left) (inv .1) (c .before .if3 .left) (c .moved .ensures .0)), length-set {A = ℕ} (at-loop .loop .marks) (at-loop .loop .cursor .at) 1 ∙ inv .3, inv .4)
+    let inv = at-loop .loop .inv in (
+      inv .0,
+      c .moved .ensures .1,
+      (λ l w. going-on (inv .2 l w) _ _ (omega arith) (within .before .if1 .left) (within .if2 .left) (inv .1) (c .before .if3 .left) (c .moved .ensures .0)),
+      length-set {A = ℕ} (at-loop .loop .marks) (at-loop .loop .cursor .at) 1 ∙ inv .3,
+      inv .4,
+    )
 
 returns-4 : tie.Need-returns-4 Inv-loop μ-loop
 returns-4 c =

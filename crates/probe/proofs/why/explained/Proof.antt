@@ -4,7 +4,7 @@ use Prim.Native.Nat.{ℕ, _*_, _≤_}
 use native.Mathlib.Omega.{arith}
 use lib.ListN.{take}
 use Rattle.output.proofs.FillLaws.{fills-wrote}
-use Rattle.judgement.proofs.TextLaws.{within, first-size}
+use Rattle.output.proofs.OutputLaws.{within, first-size}
 use Rattle.probe.specs.Calls.{bytesOf}
 use Rattle.probe.proofs.WhyLaws.{stored-as}
 use borrow.Author.Needs.{needs}

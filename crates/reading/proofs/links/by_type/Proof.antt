@@ -2,13 +2,13 @@
 use mathlib.Core.Logic.{inl, inr}
 use native.Mathlib.Omega.{arith}
 use Rattle.reading.specs.Readable.{readable}
-use Rattle.reading.proofs.LinkLaws.{readable-le, readable-lt, Walk, HereOf, walk-start, walk-here, walk-on, Sorted, sorted-start, sorted-with, sorted-keep, sorted-done}
+use Rattle.reading.proofs.LinkLaws.{readable-le, readable-lt, LinkWalk, HereOf, walk-start, walk-here, walk-on, Sorted, sorted-start, sorted-with, sorted-keep, sorted-done}
 use borrow.Author.Needs.{needs}
 use Rattle.reading.proofs.links.by_type.Statement.{statement}
 use Rattle.reading.proofs.links.by_type.Tie as tie
 
 abbrev Inv-loop : tie.InvT-loop
-Inv-loop file b from h₀ n₀ cursor₀ h n cursor = Walk file (readable file) b from n (cursor .at) × Sorted file b n (cursor .at) h
+Inv-loop file b from h₀ n₀ cursor₀ h n cursor = LinkWalk file (readable file) b from n (cursor .at) × Sorted file b n (cursor .at) h
 
 abbrev μ-loop : tie.MeasureT-loop
 μ-loop file b from h₀ n₀ cursor₀ h n cursor = n

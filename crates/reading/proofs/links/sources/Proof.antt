@@ -3,13 +3,13 @@ use mathlib.Core.Logic.{inl, inr}
 use native.Mathlib.Omega.{arith}
 use Rattle.relation.specs.Bits.{bit}
 use Rattle.reading.specs.Readable.{readable}
-use Rattle.reading.proofs.LinkLaws.{readable-le, readable-lt, Walk, HereOf, walk-start, walk-here, walk-on, Taken, taken-start, taken-with, taken-keep, taken-done}
+use Rattle.reading.proofs.LinkLaws.{readable-le, readable-lt, LinkWalk, HereOf, walk-start, walk-here, walk-on, Taken, taken-start, taken-with, taken-keep, taken-done}
 use borrow.Author.Needs.{needs}
 use Rattle.reading.proofs.links.sources.Statement.{statement}
 use Rattle.reading.proofs.links.sources.Tie as tie
 
 abbrev Inv-loop : tie.InvT-loop
-Inv-loop file b t from r₀ n₀ cursor₀ r n cursor = Walk file (readable file) b from n (cursor .at) × Taken file t b n (cursor .at) (bit r)
+Inv-loop file b t from r₀ n₀ cursor₀ r n cursor = LinkWalk file (readable file) b from n (cursor .at) × Taken file t b n (cursor .at) (bit r)
 
 abbrev μ-loop : tie.MeasureT-loop
 μ-loop file b t from r₀ n₀ cursor₀ r n cursor = n

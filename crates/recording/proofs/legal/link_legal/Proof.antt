@@ -1,5 +1,5 @@
 -- `legal::link_legal` meets its contract, by type.
-use Rattle.recording.proofs.LegalLaws.{past, link-of, link-other}
+use Rattle.recording.proofs.LegalLaws.{above, link-of, link-other}
 use Rattle.recording.specs.Causes.{ctrlLegal, linkLegal}
 use borrow.Author.Needs.{needs}
 use Rattle.recording.proofs.legal.link_legal.Statement.{statement}
@@ -9,8 +9,8 @@ none : tie.Need-returns-8
 none c =
     let four = c .before .before .before in
     link-other _ _ _ _ _ (λ h.
-    past 7 (c .if7 .left) (past 6 (c .before .if6 .left) (past 5 (c .before .before .if5 .left)
-    (past 4 (four .if4 .left) (past 3 (four .before .if3 .left) (past 2 (four .before .before .if2 .left) (past 1 (four .before .before .before .if1 .left) h)))))))
+    above 7 (c .if7 .left) (above 6 (c .before .if6 .left) (above 5 (c .before .before .if5 .left)
+    (above 4 (four .if4 .left) (above 3 (four .before .if3 .left) (above 2 (four .before .before .if2 .left) (above 1 (four .before .before .before .if1 .left) h)))))))
 
 pub link-legal-spec : {M : Type 1} → statement M
 unfolding linkLegal ctrlLegal

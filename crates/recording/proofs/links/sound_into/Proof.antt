@@ -12,14 +12,14 @@ use Rattle.reading.specs.Readable.{within}
 use Rattle.recording.specs.Causes.{linkSound, linksSoundAt}
 use Rattle.layout.proofs.FieldLaws.{and-yes, and-no}
 use Rattle.recording.proofs.CauseLaws.{sound-readable}
-use Rattle.reading.proofs.LinkLaws.{within-le, readable-lt, row-of-source, Walk, HereOf, walk-start, walk-here, walk-on, Along, along-start, along-done, along-fails, along-on, Taken, taken-start, taken-with, taken-keep, taken-done}
+use Rattle.reading.proofs.LinkLaws.{within-le, readable-lt, row-of-source, LinkWalk, HereOf, walk-start, walk-here, walk-on, Along, along-start, along-done, along-fails, along-on, Taken, taken-start, taken-with, taken-keep, taken-done}
 use borrow.Author.Needs.{needs}
 use Rattle.recording.proofs.links.sound_into.Statement.{statement}
 use Rattle.recording.proofs.links.sound_into.Tie as tie
 
 abbrev Inv-loop : tie.InvT-loop
 Inv-loop file b po from rf₀ n₀ cursor₀ rf n cursor =
-    (edge po ≡ base nodes (decode file) .po) × Walk file (within file) b from n (cursor .at) × Along file (linkSound file b) b n (cursor .at)
+    (edge po ≡ base nodes (decode file) .po) × LinkWalk file (within file) b from n (cursor .at) × Along file (linkSound file b) b n (cursor .at)
     × Taken file 1 b n (cursor .at) (bit rf)
 
 abbrev μ-loop : tie.MeasureT-loop

@@ -4,21 +4,21 @@ use mathlib.Core.Logic.{inl, inr}
 use Prim.Native.Nat.{_-_}
 use Rattle.relation.specs.Rel.{Set, inverse, empty}
 use Rattle.relation.specs.Bits.{bit, edge}
-use Rattle.relation.proofs.SetLaws.{Filled, filled-start, filled-with, filled-keep, filled-all}
+use Rattle.relation.proofs.SetLaws.{Collected, collected-start, collected-with, collected-keep, collected-all}
 use Rattle.relation.proofs.GridLaws.{edge-out}
 use borrow.Author.Needs.{needs}
 use Rattle.relation.proofs.grid.column.Statement.{statement}
 use Rattle.relation.proofs.grid.column.Tie as tie
 
 abbrev Inv-loop : tie.InvT-loop
-Inv-loop j g r₀ i₀ r i = Filled (inverse (edge g) j) (bit r) i
+Inv-loop j g r₀ i₀ r i = Collected (inverse (edge g) j) (bit r) i
 
 abbrev μ-loop : tie.MeasureT-loop
 μ-loop j g r₀ i₀ r i = 64 - i
 
 loop-holds : tie.Need-loop-holds Inv-loop μ-loop
 unfolding inverse empty
-loop-holds c = filled-start (c .none .ensures) (λ m h. ap (λ (s : Set). s (c .before .args .j)) (edge-out _ (search needs) m h))
+loop-holds c = collected-start (c .none .ensures) (λ m h. ap (λ (s : Set). s (c .before .args .j)) (edge-out _ (search needs) m h))
 
 loop-again : tie.Need-loop-again Inv-loop μ-loop
 unfolding inverse edge
@@ -27,12 +27,12 @@ loop-again c =
     let inv = turn .before .loop .inv in
     let test = c .before .has .ensures in
     elim (c .if1 .came) [
-      | inl w ↦ rw (w .2) (filled-with inv (turn .loop-test .taken) (sym test ∙ w .0 .taken) (w .1 .ensures))
-      | inr w ↦ rw (w .1) (filled-keep inv (turn .loop-test .taken) (sym test ∙ w .0 .left))
+      | inl w ↦ rw (w .2) (collected-with inv (turn .loop-test .taken) (sym test ∙ w .0 .taken) (w .1 .ensures))
+      | inr w ↦ rw (w .1) (collected-keep inv (turn .loop-test .taken) (sym test ∙ w .0 .left))
     ]
 
 returns : tie.Need-returns Inv-loop μ-loop
-returns c = filled-all (c .before .loop .inv) (c .loop-test .left)
+returns c = collected-all (c .before .loop .inv) (c .loop-test .left)
 
 pub column-spec : {M : Type 1} → statement M
 column-spec =

@@ -17,8 +17,11 @@ way-requires c κs =
 
 returns-2 : tie.Need-returns-2
 returns-2 c =
-    let start = c .before .before .before in
-    (omega (arith, c .turned .ensures .same, c .before .before .if1 .left), ring-some (edge-inside _ (search needs)) (edge-inside _ (search needs)) (start .shortest .ensures) (c .before .before .if1 .left) (c .before .way .ensures) (c .turned .ensures) (omega arith))
+    let start = c .before .before .before in (
+      omega (arith, c .turned .ensures .same, c .before .before .if1 .left),
+      ring-some (edge-inside _ (search needs)) (edge-inside _ (search needs)) (start .shortest .ensures) (c .before .before .if1 .left) (c .before .way .ensures)
+          (c .turned .ensures) (omega arith),
+    )
 
 pub ring-spec : {M : Type 1} → statement M
 ring-spec =

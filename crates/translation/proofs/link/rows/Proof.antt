@@ -13,7 +13,10 @@ row-of-requires : tie.Need-row-of-requires
 row-of-requires c κs = (let start = c .before .before .before in omega (arith, most-events _ (start .pre .0 .source), start .pre .1 .high))
 
 returns : tie.Need-returns
-returns c = (let start = c .before .before .before .before .before in rows-into _ (start .pre .0 .source) _ _ _ (start .pre .1) (c .before .before .before .sources-by-type .ensures) (start .pre .0 .grid) (c .before .before .none .ensures) (c .before .row-of .ensures) (c .none2 .ensures))
+returns c =
+    let start = c .before .before .before .before .before in
+    rows-into _ (start .pre .0 .source) _ _ _ (start .pre .1) (c .before .before .before .sources-by-type .ensures) (start .pre .0 .grid)
+    (c .before .before .none .ensures) (c .before .row-of .ensures) (c .none2 .ensures)
 
 pub rows-spec : {M : Type 1} → statement M
 rows-spec =

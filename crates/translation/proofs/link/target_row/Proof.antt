@@ -27,7 +27,8 @@ returns-2 : tie.Need-returns-2
 returns-2 c =
     let read = c .before .before .before .before in
     let start = read .before .before .before in
-    rw (read .before .if1 .taken) (target-one _ (start .pre) true _ (read .is-flagged .ensures) (not-false _ (c .before .before .before .if2 .left)) (c .before .before .none2 .ensures) (c .with .ensures) (c .before .controlled .ensures .0))
+    rw (read .before .if1 .taken) (target-one _ (start .pre) true _ (read .is-flagged .ensures) (not-false _ (c .before .before .before .if2 .left))
+    (c .before .before .none2 .ensures) (c .with .ensures) (c .before .controlled .ensures .0))
 
 is-recorded-requires : tie.Need-is-recorded-requires
 is-recorded-requires c κs = sized _ (c .before .before .pre)
@@ -47,7 +48,8 @@ returns-4 : tie.Need-returns-4
 returns-4 c =
     let event = c .before .before .before .before in
     let start = event .before .before .before in
-    rw (event .before .if1 .left) (target-one _ (start .pre) false _ (event .is-recorded .ensures) (not-false _ (c .before .before .before .if3 .left)) (c .before .before .none4 .ensures) (c .with2 .ensures) (c .before .after .ensures .0))
+    rw (event .before .if1 .left) (target-one _ (start .pre) false _ (event .is-recorded .ensures) (not-false _ (c .before .before .before .if3 .left))
+    (c .before .before .none4 .ensures) (c .with2 .ensures) (c .before .after .ensures .0))
 
 pub target-row-spec : {M : Type 1} → statement M
 target-row-spec =

@@ -29,7 +29,10 @@ add-m : tie.Need-add-m Inv-loop μ-loop
 add-m c = (let turn = c .before .before .before .before .before .before in let w = turn .before .loop .inv in omega (arith, row-room w (turn .loop-test .taken)))
 
 loop-again : tie.Need-loop-again Inv-loop μ-loop
-loop-again c = (let turn = c .before .before .before .before .before .before .before in row-next (turn .before .loop .inv) (turn .loop-test .taken) (c .before .before .before .before .before .before .chained .ensures .0) (c .before .before .before .put .ensures) (c .next .ensures))
+loop-again c =
+    let chained = c .before .before .before .before .before .before in
+    let turn = chained .before in
+    row-next (turn .before .loop .inv) (turn .loop-test .taken) (chained .chained .ensures .0) (c .before .before .before .put .ensures) (c .next .ensures)
 
 returns : tie.Need-returns Inv-loop μ-loop
 returns c = row-all (c .before .loop .inv) (c .loop-test .left)

@@ -2,14 +2,14 @@
 use mathlib.Core.Path.{refl}
 use Rattle.models.specs.Term.{eval}
 use Rattle.verdict.proofs.TermLaws.{terms}
-use Rattle.clause.proofs.StepLaws.{held-each, each}
+use Rattle.clause.proofs.StepLaws.{held-each, arrays}
 use borrow.Author.Needs.{needs}
 use Rattle.tso.proofs.order.ppo.Statement.{statement}
 use Rattle.tso.proofs.order.ppo.Tie as tie
 
 returns : tie.Need-returns
 unfolding eval
-returns c = λ B r w p. held-each 2 refl (search (each, terms) depth 12)
+returns c = λ B r w p. held-each 2 refl (search (arrays, terms) depth 12)
 
 pub ppo-spec : {M : Type 1} → statement M
 ppo-spec =
