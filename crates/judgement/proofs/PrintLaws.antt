@@ -1,7 +1,7 @@
 -- Laws of what is printed: what the verdicts of the models say of each other, and the text by what loading answers.
 use mathlib.Core.Path.{_≡_, sym, ap, ap₂, subst, _∙_}
 use mathlib.Core.Bool.{false≢true}
-use mathlib.Core.List.{List}
+use mathlib.Core.List.{List, _++_}
 use mathlib.Core.Logic.{inl, inr}
 use Prim.Native.Nat.{ℕ, suc}
 use native.Mathlib.Omega.{arith}
@@ -18,10 +18,10 @@ use Rattle.verdict.specs.declared.Verdict.{Verdict}
 use Rattle.verdict.specs.Answer.{refuses, answers}
 use Rattle.verdict.proofs.ShownMeaning.{answers-injective}
 use Rattle.translation.specs.Translation.{translation}
-use Rattle.lines.specs.Lines.{chip, lineOf}
+use Rattle.lines.specs.Lines.{source, chip, tso, lineOf}
 use Rattle.soundness.specs.Soundness.{immVerdict, armv8Verdict, tsoVerdict}
 use Rattle.soundness.proofs.Proved.{soundness, tso-soundness}
-use Rattle.judgement.specs.Judgement.{OnSource, OnChip, OnTso, lineFor, TextOf}
+use Rattle.judgement.specs.Judgement.{OnSource, OnChip, OnTso, lineFor, SourceLines, TextOf}
 
 -- Verdicts of which one is allowed where the other is, as answers.
 allowed-sound : (m n : ℕ) (v w : Verdict) → v .answer ≡ answers m → w .answer ≡ answers n → (n ≡ 0 → m ≡ 0) → w .answer ≡ answers 0 → v .answer ≡ answers 0
@@ -37,6 +37,13 @@ module _ (f : List ℕ) (v w : Verdict) (l : LoadsAs layout.source f) (on : OnSo
   pub tso-sound : OnTso f w → w .answer ≡ answers 0 → v .answer ≡ answers 0
   unfolding immVerdict tsoVerdict
   tso-sound tso-on = allowed-sound _ _ v w (on .shown .answer) (tso-on .shown .answer) (tso-soundness f l)
+
+-- The lines of the three verdicts that `of_source` gives.
+pub source-lines : {f text : List ℕ} {v w u : Verdict} → OnSource f v → OnChip (translation f) w → OnTso f u
+    → (w .answer ≡ answers 0 → v .answer ≡ answers 0) → (u .answer ≡ answers 0 → v .answer ≡ answers 0)
+    → text ≡ (lineFor source v ++ lineFor chip w) ++ lineFor tso u → SourceLines f text
+source-lines on on-chip on-tso sound also p =
+    record { on-source = _; on-chip = _; on-tso = _; judged = on; judged-chip = on-chip; judged-tso = on-tso; sound = sound; tso-sound = also; prints = p }
 
 -- What is printed, by what loading answered.
 module _ (Source Chip : List ℕ → List ℕ → Type 0) (f : List ℕ) (a : Load) (is : a ≡ loadOf f) where

@@ -2,6 +2,7 @@
 use mathlib.Core.Path.{refl, ap₂, _∙_}
 use mathlib.Core.List.{_++_}
 use native.Mathlib.Omega.{arith}
+use Rattle.judgement.proofs.PrintLaws.{source-lines}
 use Rattle.explanation.proofs.WhyLaws.{behind-none}
 use borrow.Author.Needs.{needs}
 use Rattle.explanation.proofs.printed_source.Statement.{statement}
@@ -33,17 +34,7 @@ returns c =
         source = record { verdict = _; judged = on; steps = _; explained = after-source .explained .ensures; prints = refl };
         chip = record { verdict = _; judged = on-chip; steps = _; explained = after-chip .chip-steps .ensures; prints = refl };
         tso = record { verdict = _; judged = on-tso; steps = _; explained = after-tso .explained2 .ensures; prints = refl };
-        judges = record {
-          on-source = _;
-          on-chip = _;
-          on-tso = _;
-          judged = on;
-          judged-chip = on-chip;
-          judged-tso = on-tso;
-          sound = sound;
-          tso-sound = tso-sound;
-          prints = refl;
-        };
+        judges = source-lines on on-chip on-tso sound tso-sound refl;
         prints = c .reasoned3 .ensures .0 ∙ ap₂ _++_ (two ∙ ap₂ _++_ one refl) refl;
       },
       omega (arith, none .empty .ensures, first .reasoned .ensures .1, second .reasoned2 .ensures .1, c .reasoned3 .ensures .1),

@@ -3,7 +3,7 @@ use mathlib.Core.Path.{ap₂, _∙_}
 use mathlib.Core.List.{_++_}
 use native.Mathlib.Omega.{arith}
 use Rattle.recording.proofs.CauseLaws.{loaded-side}
-use Rattle.judgement.proofs.PrintLaws.{refusal-text, source-text, chip-text}
+use Rattle.judgement.proofs.PrintLaws.{source-lines, refusal-text, source-text, chip-text}
 use borrow.Author.Needs.{needs}
 use Rattle.judgement.proofs.printed.Statement.{statement}
 use Rattle.judgement.proofs.printed.Tie as tie
@@ -33,17 +33,8 @@ returns-2 c =
     let second = after-added .added .ensures in
     let third = c .added2 .ensures in (
       source-text _ _ _ _ (of-source-requires (v .before) (v .of-source .lifetimes))
-          (record {
-            on-source = _;
-            on-chip = _;
-            on-tso = _;
-            judged = on;
-            judged-chip = on-chip;
-            judged-tso = on-tso;
-            sound = sound;
-            tso-sound = tso-sound;
-            prints = third .0 ∙ ap₂ _++_ (second .0 ∙ ap₂ _++_ (first .0 ∙ after-line2 .line2 .ensures .0) (after-line3 .line3 .ensures .0)) (after-line4 .line4 .ensures .0);
-          }),
+          (source-lines on on-chip on-tso sound tso-sound
+          (third .0 ∙ ap₂ _++_ (second .0 ∙ ap₂ _++_ (first .0 ∙ after-line2 .line2 .ensures .0) (after-line3 .line3 .ensures .0)) (after-line4 .line4 .ensures .0))),
       omega (arith, third .1, second .1, first .1, after-line3 .line3 .ensures .1, after-line4 .line4 .ensures .1),
     )
 
