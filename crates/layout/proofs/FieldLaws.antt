@@ -1,16 +1,16 @@
 -- Laws of reading a file: each test and field of the code is that of its definition.
-use mathlib.Core.Path.{◌≡◌, refl, sym, ap, ap₂, ◌∙◌}
+use mathlib.Core.Path.{◌≡◌, refl, sym, ap, ◌∙◌}
 use mathlib.Core.Bool.{Bool, true, false, ◌&&◌, ◌||◌}
 use mathlib.Core.List.{List}
 use mathlib.Core.Logic.{inl, inr}
-use Prim.Native.Nat.{ℕ, ◌+◌, ◌-◌, ◌*◌, ◌<◌, ◌≤◌}
+use Prim.Native.Nat.{ℕ, ◌+◌, ◌-◌, ◌<◌, ◌≤◌}
 use native.Mathlib.Omega.{arith}
 use borrow.Author.Tests.{le-leb, lt-leb, leb-true, ltb-true, eq-eqb, ne_eqb, eqb-true}
 use borrow.Author.Rules.{rules}
 use lib.Dec.{leb, ltb, eqb}
 use Rattle.relation.proofs.Truth.{and_left, and_right, or_either}
 use Rattle.models.specs.Recording.{Recording, event, of_class}
-use Rattle.layout.specs.Layout.{byte, Side, by_side, most_events, most_links, most_in_thread, events, event_place, event_byte, event_word, least_value, first_initial, locations, Sized}
+use Rattle.layout.specs.Layout.{byte, Side, by_side, most_events, most_links, most_in_thread, events, event_byte, first_initial, locations, Sized}
 use Rattle.layout.specs.Chains.{next_of, next_event}
 use Rattle.layout.specs.Decode.{is_recorded, is_initial, record_or, field_or, decode}
 
@@ -124,19 +124,6 @@ location_recorded f e b h p = p ∙ same (is_recorded f e) refl
     same true q = sym (record_recorded f (λ x. 0) here e h q) ∙ record_recorded f (λ x. x - first_initial) here e h q
     same false q = sym (record_none f (λ x. 0) here e h q) ∙ record_none f (λ x. x - first_initial) here e h q
 
--- The value: 0 of an initial write, and the two bytes of a record.
-pub value_initial : (f : List ℕ) (e : ℕ) → 56 ≤ e → 0 ≡ (decode f).value e
-unfolding decode
-value_initial f e h = record_initial f (λ x. 0) (least_value f) e h
-
-pub value_recorded : (f : List ℕ) (e a b : ℕ) → e < 56 → a ≡ event_byte f e 5 → b ≡ event_byte f e 6 → is_recorded f e ≡ true → a + 256 * b ≡ (decode f).value e
-unfolding decode event_word
-value_recorded f e a b h p q r = ap₂ (λ (x y : ℕ). x + 256 * y) p q ∙ record_recorded f (λ x. 0) (least_value f) e h r
-
-pub value_none : (f : List ℕ) (e : ℕ) → e < 56 → is_recorded f e ≡ false → 0 ≡ (decode f).value e
-unfolding decode
-value_none f e h p = record_none f (λ x. 0) (least_value f) e h p
-
 -- Events are numbered below 64.
 pub event_small : (f : List ℕ) (e : ℕ) → Sized f → event (decode f) e ≡ true → e < 64
 unfolding event decode
@@ -161,5 +148,5 @@ class_is r k e p = eqb-true (r.class e) k (and_right (event r e) (eqb (r.class e
 
 -- The first byte of a record is the number that follows on its chain.
 pub next_first : (f : List ℕ) (a : ℕ) → event_byte f a 0 ≡ next_event f a
-unfolding next_of event_place
+unfolding next_of
 next_first f a = ap (byte f) (omega arith)

@@ -3,4 +3,3 @@ pub mod FieldLaws
 pub mod ChainLaws
 pub mod ChainFacts
 pub mod EachLaws
-pub mod PlaceLaws

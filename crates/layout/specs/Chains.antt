@@ -1,6 +1,6 @@
 -- Chains: events on thread chains and links on event chains (01, "The recording"; causes 6 and 7).
-use Rattle.std.specs.Prelude.{◌≡◌, Bool, true, false, ◌&&◌, ◌||◌, not, List, [], ◌∷◌, ◌++◌, ℕ, zero, suc, ◌+◌, ◌-◌, ◌*◌, ◌<◌, ◌≤◌, eqb, leb, ltb, length, get_or}
-use Rattle.layout.specs.Layout.{byte, events, links, heads, head_start, header_size, event_size, link_size, link_start, threads}
+use Rattle.std.specs.Prelude.{◌≡◌, Bool, true, false, ◌&&◌, ◌||◌, not, List, [], ◌∷◌, ◌++◌, ℕ, zero, suc, ◌+◌, ◌-◌, ◌*◌, ◌<◌, ◌≤◌, eqb, leb, length, get_or}
+use Rattle.layout.specs.Layout.{byte, events, links, header_size, event_size, link_size, link_start, threads}
 
 -- Whether x stands in the list.
 unfoldable pub among : ℕ → List ℕ → Bool
@@ -55,17 +55,17 @@ start_of f from size j = byte f (from + size * j)
 
 -- The next event of the thread, and the head of thread t.
 abbrev pub next_event : List ℕ → ℕ → ℕ
-next_event f = next_of f (header_size f) (event_size f)
+next_event f = next_of f header_size event_size
 
-unfoldable pub head : List ℕ → ℕ → ℕ
-head f t = elim (ltb t (heads f)) [ true ↦ start_of f head_start 1 t | false ↦ 0 ]
+abbrev pub head : List ℕ → ℕ → ℕ
+head f = start_of f 4 1
 
 -- The next link into the same event, and the first link into event j + 1.
 abbrev pub next_link : List ℕ → ℕ → ℕ
 next_link f = next_of f (link_start f) link_size
 
 abbrev pub first_link : List ℕ → ℕ → ℕ
-first_link f = start_of f (header_size f + (event_size f - 1)) (event_size f)
+first_link f = start_of f 15 event_size
 
 -- The events of thread t in their order, and those of the first n threads, one thread behind the other.
 abbrev pub thread : List ℕ → ℕ → List ℕ

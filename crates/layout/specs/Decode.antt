@@ -1,8 +1,8 @@
 -- The recording that a file holds (01, "The recording"), read at the places that Layout names.
-use Rattle.std.specs.Prelude.{Bool, true, false, ◌&&◌, List, ℕ, ◌+◌, ◌-◌, eqb, leb, ltb}
+use Rattle.std.specs.Prelude.{Bool, true, false, ◌&&◌, List, ℕ, ◌+◌, ◌-◌, ◌*◌, eqb, leb, ltb}
 use Rattle.relation.specs.Rel.{some}
 use Rattle.models.specs.Recording.{Recording}
-use Rattle.layout.specs.Layout.{events, locations, event_byte, link_byte, least_value, first_initial}
+use Rattle.layout.specs.Layout.{events, locations, event_byte, link_byte, first_initial}
 use Rattle.layout.specs.Chains.{next_event, links_into}
 
 -- Event records are numbered from 1 to N.
@@ -31,7 +31,7 @@ decode f =
       mode = field_or f 2 0;
       flag = field_or f 3 0;
       location = record_or f (λ e. e - first_initial) (λ e. event_byte f e 4);
-      value = record_or f (λ e. 0) (least_value f);
+      value = λ e. field_or f 5 0 e + 256 * field_or f 6 0 e;
       initial = is_initial f;
       recorded = is_recorded f;
       next = λ a b. is_recorded f a && is_recorded f b && eqb (next_event f a) b;

@@ -1,9 +1,9 @@
 // Reading a file whose limits and length are right: bytes of records, and what they say of an event.
 // Every number may be asked for. One below 56 that has no record gives 0 or false; one from 56 on gives what an initial write has (specs/Decode.antt).
 
-ghost use Rattle.std.specs.Prelude.{◌≡◌, ◌+◌, ◌-◌, ◌*◌, ◌≤◌, ◌<◌, length};
+ghost use Rattle.std.specs.Prelude.{◌≡◌, ◌≤◌, ◌<◌};
 ghost use Rattle.models.specs.Recording.{event, of_class, flagged, access};
-ghost use Rattle.layout.specs.Layout.{side, events, locations, links, heads, header_size, event_size, event_place, link_start, event_byte, link_byte, Sized, Following};
+ghost use Rattle.layout.specs.Layout.{side, events, locations, links, event_byte, link_byte, Sized, Following};
 ghost use Rattle.layout.specs.Decode.{is_recorded, is_initial, field_or, decode};
 
 use crate::kind;
@@ -51,66 +51,12 @@ pub fn following(n: usize, e: usize) -> usize
     e + 1
 }
 
-// The number of heads in the header.
-pub fn heads(file: &[u8]) -> usize
-    requires { Sized file.now }
-    ensures { (result ≡ heads file.now) × (4 ≤ result) × (result ≤ 8) }
-{
-    kind::heads_of(file[0] as usize)
-}
-
-// The size of the header.
-pub fn header_size(file: &[u8]) -> usize
-    requires { Sized file.now }
-    ensures { (result ≡ header_size file.now) × (result ≤ 12) }
-{
-    4 + heads(file)
-}
-
-// The size of an event record.
-pub fn event_size(file: &[u8]) -> usize
-    requires { Sized file.now }
-    ensures { (result ≡ event_size file.now) × (8 ≤ result) × (result ≤ 10) }
-{
-    kind::event_size_of(file[0] as usize)
-}
-
-// Where event record i begins.
-pub fn event_place(file: &[u8], i: usize) -> usize
-    requires { Sized file.now × (1 ≤ i) × (i ≤ events file.now) }
-    ensures { (result ≡ event_place file.now i) × (result + 8 ≤ length file.now) × (result + event_size file.now ≤ length file.now) }
-{
-    let from = header_size(file);
-    let size = event_size(file);
-    from + size * (i - 1)
-}
-
-// Where the link records begin.
-pub fn link_start(file: &[u8]) -> usize
-    requires { Sized file.now }
-    ensures { (result ≡ link_start file.now) × (result ≤ length file.now) }
-{
-    let n = events(file);
-    kind::link_start_of(file[0] as usize, n)
-}
-
 // Byte k of event record i.
 pub fn event_byte(file: &[u8], i: usize, k: usize) -> usize
     requires { Sized file.now × (1 ≤ i) × (i ≤ events file.now) × (k < 8) }
     ensures { (result ≡ event_byte file.now i k) × (result < 256) }
 {
-    let place = event_place(file, i);
-    file[place + k] as usize
-}
-
-// Byte k of event record i, counted from its end: the last byte is the first.
-pub fn byte_from_end(file: &[u8], i: usize, k: usize) -> usize
-    requires { Sized file.now × (1 ≤ i) × (i ≤ events file.now) × (1 ≤ k) × (k ≤ 8) }
-    ensures { (result ≡ event_byte file.now i (event_size file.now - k)) × (result < 256) }
-{
-    let place = event_place(file, i);
-    let size = event_size(file);
-    file[place + (size - k)] as usize
+    file[8 + 8 * (i - 1) + k] as usize
 }
 
 // Byte k of link record m.
@@ -118,8 +64,8 @@ pub fn link_byte(file: &[u8], m: usize, k: usize) -> usize
     requires { Sized file.now × (1 ≤ m) × (m ≤ links file.now) × (k < 4) }
     ensures { (result ≡ link_byte file.now m k) × (result < 256) }
 {
-    let place = link_start(file);
-    file[place + 4 * (m - 1) + k] as usize
+    let n = events(file);
+    file[8 + 8 * n + 4 * (m - 1) + k] as usize
 }
 
 // Whether e has a record.
@@ -195,13 +141,7 @@ pub fn value_of(file: &[u8], e: usize) -> usize
     requires { Sized file.now }
     ensures { result ≡ (decode file.now).value e }
 {
-    if 56 <= e {
-        return 0;
-    }
-    if is_recorded(file, e) {
-        return event_byte(file, e, 5) + 256 * event_byte(file, e, 6);
-    }
-    0
+    field(file, e, 5, 0) + 256 * field(file, e, 6, 0)
 }
 
 // Whether e is an initial write or has a record.

@@ -1,7 +1,7 @@
 // What varies by kind: the kinds that there are, the side of each, and the limits of a side.
 
-ghost use Rattle.std.specs.Prelude.{◌≡◌, ◌≤◌, ◌<◌};
-ghost use Rattle.layout.specs.Layout.{kind_known, side_of, heads_of, event_size_of, link_start_of, chip_of, by_side, most_events, most_links, most_in_thread};
+ghost use Rattle.std.specs.Prelude.{◌≡◌};
+ghost use Rattle.layout.specs.Layout.{kind_known, side_of, by_side, most_events, most_links, most_in_thread};
 
 // The sides, as the answer to whether a recording is a source recording.
 pub const SOURCE: bool = true;
@@ -20,38 +20,6 @@ pub fn side_of(kind: usize) -> bool
     ensures { result ≡ side_of kind }
 {
     kind == 1
-}
-
-// How many heads the header of a kind has.
-pub fn heads_of(kind: usize) -> usize
-    ensures { (result ≡ heads_of kind) × (4 ≤ result) × (result ≤ 8) }
-{
-    4
-}
-
-// How many bytes an event record of a kind has.
-pub fn event_size_of(kind: usize) -> usize
-    ensures { (result ≡ event_size_of kind) × (8 ≤ result) × (result ≤ 10) }
-{
-    8
-}
-
-// Where the link records of a file of a kind begin, where there are n event records.
-pub fn link_start_of(kind: usize, n: usize) -> usize
-    requires { n < 256 }
-    ensures { (result ≡ link_start_of kind n) × (result < 4096) }
-{
-    let heads = heads_of(kind);
-    let size = event_size_of(kind);
-    4 + heads + size * n
-}
-
-// The kind of the translation of a recording of a source kind.
-pub fn chip_of(kind: usize) -> usize
-    requires { kind < 256 }
-    ensures { result ≡ chip_of kind }
-{
-    kind + 1
 }
 
 // The number of this side: a of source, b of chip.

@@ -3,4 +3,3 @@
 pub mod chain;
 pub mod field;
 pub mod kind;
-pub mod walk;

@@ -18,8 +18,8 @@ use Rattle.models.proofs.Tests.{some_intro, some_witness, plus_steps, Tests, plu
 use Rattle.models.proofs.MemberLaws.{step_cases, CoStep, linked, initially}
 use Rattle.models.specs.Rules.{Numbered, first}
 use Rattle.models.proofs.FirstLaws.{positive, test_of, first_fails}
-use Rattle.layout.specs.Layout.{Side, side_of, side, events, kind_known, by_side, heads_of, ranged_of, event_size_of, event_place, link_start_of, link_byte}
-use Rattle.layout.specs.Chains.{each, links_into, among, follow, met, fresh, once_each, next_of, start_of, head, all_of}
+use Rattle.layout.specs.Layout.{Side, side_of, side, events, kind_known, by_side, link_byte}
+use Rattle.layout.specs.Chains.{each, links_into, among, follow, met, fresh, once_each, next_of, start_of, all_of}
 use Rattle.layout.specs.Decode.{is_recorded, is_initial, record_or, field_or, decode}
 use Rattle.recording.specs.Causes.{read_legal, write_legal, fence_mode, fence_legal, legal, event_legal, header_over, same_locations, rf_legal, co_legal, rmw_legal, from_read, data_legal, addr_legal, ctrl_legal, casdep_legal, link_legal, link_sound, one_source, links_sound_at, paired_at, too_short, kind_unknown, over_limit, wrong_length, bad_event, too_long, bad_threads, long_thread, bad_chains, bad_link, co_ring, unpaired, refusal}
 use Rattle.relation.proofs.Truth.{is_true, holds, is_false, and_left, and_right, and_both, T_ext}
@@ -27,7 +27,7 @@ use Rattle.layout.proofs.FieldLaws.{recorded_bounds, most_events_48}
 use Rattle.layout.proofs.ChainLaws.{each_at}
 use Rattle.recording.proofs.CauseLaws.{limits}
 use Rattle.recording.proofs.Accepted.{accepts, each_all}
-use Rattle.encoded.proofs.LegalLinks.{one_source_by_lem}
+use Rattle.translation.proofs.LegalLinks.{one_source_by_lem}
 use Rattle.litmus.proofs.Recorded.{event_list, recorded_listed}
 
 -- One or more steps, over two lists that hold all that r joins.
@@ -85,7 +85,7 @@ module _ (f : List ℕ) where
 
   -- The causes. To unfold it is to unfold all that it computes with.
   unfoldable pub evaluated : List Numbered
-  unfolding event_list from_read_by link_legal_by two_sources one_source_by link_sound_by links_sound_by co_between co_ring_by union either diagonal some image compose through plus inverse optional below of_class flagged access event same_location co_step base side_of kind_known by_side heads_of ranged_of event_size_of event_place link_start_of head each among follow met fresh once_each next_of start_of is_recorded is_initial record_or field_or decode read_legal write_legal fence_mode fence_legal legal event_legal header_over same_locations rf_legal co_legal rmw_legal all_of paired_at too_short kind_unknown over_limit wrong_length bad_event bad_threads too_long long_thread bad_chains unpaired
+  unfolding event_list from_read_by link_legal_by two_sources one_source_by link_sound_by links_sound_by co_between co_ring_by union either diagonal some image compose through plus inverse optional below of_class flagged access event same_location co_step base side_of kind_known by_side each among follow met fresh once_each next_of start_of is_recorded is_initial record_or field_or decode read_legal write_legal fence_mode fence_legal legal event_legal header_over same_locations rf_legal co_legal rmw_legal all_of paired_at too_short kind_unknown over_limit wrong_length bad_event bad_threads too_long long_thread bad_chains unpaired
   evaluated =
       (1, too_short f) ∷ (2, kind_unknown f) ∷ (3, over_limit f) ∷ (4, wrong_length f)
       ∷ (5, bad_event f) ∷ (6, bad_threads f) ∷ (13, long_thread f) ∷ (7, bad_chains f)

@@ -8,6 +8,7 @@ use native.Mathlib.Omega.{arith}
 use native.Mathlib.Decide.{ℕ_discrete}
 use borrow.Author.Tests.{leb-true}
 use lib.Dec.{T, eqb, leb, ltb}
+use lib.ListN.{get_or}
 use Rattle.relation.specs.Rel.{nodes}
 use Rattle.relation.proofs.Truth.{and_left, and_right}
 use Rattle.models.specs.Recording.{Recording, event}
@@ -20,8 +21,9 @@ use Rattle.layout.specs.Chains.{next_event}
 use Rattle.layout.specs.Decode.{is_recorded, is_initial, record_or, field_or, decode}
 use Rattle.recording.specs.Causes.{refusal}
 use Rattle.recording.proofs.Loaded.{loaded_within}
-use Rattle.encoding.specs.Contents.{Contents, word_at}
-use Rattle.encoding.proofs.Says.{Event, initially, recorded, event_says, Bytes, next_byte, bytes_say}
+use Rattle.translation.specs.Contents.{Contents}
+use Rattle.translation.specs.Encode.{event_record}
+use Rattle.translation.proofs.Says.{Event, initially, recorded, event_says, Bytes, next_byte, bytes_say}
 
 -- The events of a file with n records and l locations: n down to 1, and 56 + l - 1 down to 56.
 unfoldable pub event_list : ℕ → ℕ → List ℕ
@@ -54,7 +56,7 @@ module _ (c : Contents) where
     mode = said_or (λ e. 0) c.mode;
     flag = said_or (λ e. 0) c.flag;
     location = said_or (λ e. e - 56) c.location;
-    value = said_or (λ e. 0) c.low;
+    value = λ e. said_or (λ e. 0) c.low e + 256 * said_or (λ e. 0) c.high e;
     initial = λ e. leb 56 e && ltb e (56 + c.locations);
     recorded = has_record;
     next = λ a b. has_record a && has_record b && eqb (c.next a) b;
@@ -68,18 +70,6 @@ or_zero b x = elim b [ true ↦ x | false ↦ 0 ]
 where_true : (b : Bool) (x y : ℕ) → (b ≡ true → x ≡ y) → or_zero b x ≡ or_zero b y
 where_true true x y f = f refl
 where_true false x y f = refl
-
-word_same : (s t : Bool) (x y : ℕ)
-    → elim s [ true ↦ 0 | false ↦ elim t [ true ↦ x | false ↦ 0 ] ] + 256 * elim s [ true ↦ 0 | false ↦ elim t [ true ↦ y | false ↦ 0 ] ]
-    ≡ elim s [ true ↦ 0 | false ↦ elim t [ true ↦ x + 256 * y | false ↦ 0 ] ]
-word_same true t x y = refl
-word_same false true x y = refl
-word_same false false x y = refl
-
--- The value of an event is a word of its record, or 0.
-pub value_word : (f : List ℕ) (e : ℕ) → field_or f 5 0 e + 256 * field_or f 6 0 e ≡ record_or f (λ x. 0) (λ x. word_at f x 5) e
-unfolding record_or field_or word_at
-value_word f e = word_same (leb 56 e) (is_recorded f e) (event_byte f e 5) (event_byte f e 6)
 
 and_where : (b : Bool) (x y : Bool) → (b ≡ true → x ≡ y) → b && x ≡ b && y
 and_where true x y f = f refl
@@ -110,17 +100,18 @@ module _ (f : List ℕ) (c : Contents) (b : Bytes f c) where
       ∙ and_where (has_record c x && has_record c y) (eqb (next_event f x) y) (eqb (c.next x) y)
       (λ p. (let w = record_bounds x (search and_left) in ap (λ (n : ℕ). eqb n y) (next_byte f c b x w.0 w.1)))
 
-  value_same : (e : ℕ) → field_or f 5 0 e + 256 * field_or f 6 0 e ≡ said_or c (λ e. 0) c.low e
-  value_same e = value_word f e ∙ ap (λ (g : ℕ → ℕ). g e) (said_same (λ e. 0) (λ e. word_at f e 5) c.low b.low)
+  -- Byte k of each record.
+  byte_same : (k : ℕ) → k < 7 → (given : ℕ → ℕ) → record_or f given (λ e. event_byte f e k) ≡ said_or c given (λ e. get_or (event_record c e) k 0)
+  byte_same k small given = said_same given (λ e. event_byte f e k) (λ e. get_or (event_record c e) k 0) (b.byte k small)
 
   decoded : decode f ≡ recording_of c
-  unfolding decode field_or recording_of
+  unfolding decode field_or recording_of event_record
   decoded = λ i. record {
-    class = said_same (λ e. 2) (λ e. event_byte f e 1) c.class b.class i;
-    mode = said_same (λ e. 0) (λ e. event_byte f e 2) c.mode b.mode i;
-    flag = said_same (λ e. 0) (λ e. event_byte f e 3) c.flag b.flag i;
-    location = said_same (λ e. e - 56) (λ e. event_byte f e 4) c.location b.location i;
-    value = λ e. value_same e i;
+    class = byte_same 1 (omega arith) (λ e. 2) i;
+    mode = byte_same 2 (omega arith) (λ e. 0) i;
+    flag = byte_same 3 (omega arith) (λ e. 0) i;
+    location = byte_same 4 (omega arith) (λ e. e - 56) i;
+    value = λ e. byte_same 5 (omega arith) (λ e. 0) i e + 256 * byte_same 6 (omega arith) (λ e. 0) i e;
     initial = λ e. initial_same e i;
     recorded = λ e. record_same e i;
     next = λ x y. next_same x y i;

@@ -11,15 +11,15 @@ use Rattle.relation.specs.Rel.{count, least}
 use Rattle.relation.proofs.Truth.{and_left, and_right}
 use Rattle.models.specs.Rules.{Model, IMM, ARMv8, TSO, first}
 use Rattle.models.proofs.EvalTable.{table_verdict}
-use Rattle.layout.specs.Layout.{side, chip_of}
+use Rattle.layout.specs.Layout.{side}
 use Rattle.recording.specs.Causes.{refusal}
-use Rattle.encoding.specs.Contents.{word_at, contents}
+use Rattle.translation.specs.Contents.{contents}
 use Rattle.translation.specs.Translate.{flagged, inserted, new_events, fenced, after, follows, kept_or, new_mode, new_flag, controlled, from_exclusive, from_casdep, new_link, translated}
 use Rattle.translation.specs.Translation.{translation}
 use Rattle.translation.specs.Parts.{Source}
 use Rattle.translation.proofs.SourceFacts.{limits}
 use Rattle.translation.proofs.Bounds.{most_events_lem, links_fit}
-use Rattle.encoding.proofs.Says.{Bytes, contents_bytes, encode_bytes}
+use Rattle.translation.proofs.Says.{Bytes, contents_bytes, encode_bytes}
 use Rattle.soundness.specs.Soundness.{imm_verdict, armv8_verdict, tso_verdict}
 use Rattle.soundness.proofs.Proved.{soundness}
 use Rattle.litmus.specs.Table.{Row, Holds, table, Litmus, empty, message_passing, release_acquire, load_buffering, load_buffering_data, store_buffering, store_buffering_fences, independent_reads, two_pairs, newer_before_older, normal_pair, strong_pair}
@@ -38,11 +38,11 @@ module _ (f : List ℕ) (s : Source f) where
 -- The verdicts on what a file's contents and their translation describe. To unfold them is to unfold all that they compute with.
 module _ (f : List ℕ) where
   unfoldable pub source_verdict : Model → ℕ
-  unfolding evaluated table_verdict event_list has_record said_or recording_of contents word_at
+  unfolding evaluated table_verdict event_list has_record said_or recording_of contents
   source_verdict M = table_verdict (event_list (contents f).events (contents f).locations) (recording_of (contents f)) M
 
   unfoldable pub chip_verdict : ℕ
-  unfolding evaluated table_verdict event_list has_record said_or recording_of contents word_at chip_of count least flagged inserted new_events fenced after follows kept_or new_mode new_flag controlled from_exclusive from_casdep new_link translated
+  unfolding evaluated table_verdict event_list has_record said_or recording_of contents count least flagged inserted new_events fenced after follows kept_or new_mode new_flag controlled from_exclusive from_casdep new_link translated
   chip_verdict = table_verdict (event_list (translated (contents f)).events (translated (contents f)).locations) (recording_of (translated (contents f))) ARMv8
 
 -- The test of a row: its file loads, is a source file, and the three verdicts are the row's.

@@ -16,7 +16,5 @@ pub mod Corresponds
 pub mod Theorem
 pub mod TsoTheorem
 pub mod FromLoads
-pub mod Chained
-pub mod Extended
 pub mod FromTranslated
 pub mod Sound

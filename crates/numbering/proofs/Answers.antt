@@ -17,7 +17,7 @@ use Rattle.verdict.specs.Answer.{answers, refusal_of, rule_of}
 use Rattle.verdict.specs.Shown.{events}
 use Rattle.output.specs.Output.{answer_of}
 use Rattle.output.proofs.FillLaws.{fills_written, fills_refused}
-use Rattle.encoding.specs.Contents.{contents}
+use Rattle.translation.specs.Contents.{contents}
 use Rattle.probe.specs.Calls.{coded, coded_answer, Reports}
 use Rattle.numbering.specs.Answers.{SameAnswer, CallAgrees}
 use Rattle.numbering.proofs.Decoded.{verdicts_same}

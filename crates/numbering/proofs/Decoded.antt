@@ -19,8 +19,7 @@ use Rattle.layout.specs.Decode.{is_recorded, is_initial, record_or, field_or, de
 use Rattle.layout.proofs.FieldLaws.{recorded_bounds, initial_no, record_initial, record_recorded, record_none}
 use Rattle.recording.proofs.Accepted.{sized}
 use Rattle.recording.proofs.Loaded.{loaded_within}
-use Rattle.encoding.specs.Contents.{word_at, contents}
-use Rattle.litmus.proofs.Recorded.{value_word}
+use Rattle.translation.specs.Contents.{contents}
 use Rattle.numbering.specs.Numbering.{Renumbering, numbers_to, Renumbered}
 use Rattle.numbering.proofs.Renumberings.{same_number, recorded_moved}
 use Rattle.numbering.proofs.Recordings.{renamed, verdict_renamed}
@@ -92,20 +91,18 @@ module _ (f g : List ℕ) (w : Renumbered f g) where
           let p : is_recorded g (to a) ≡ false = sym (recorded_along a) ∙ h in
           ap (λ (x : Bool). x && is_recorded f b && eqb (next_event f a) b) h ∙ sym (ap (λ (x : Bool). x && is_recorded g (to b) && eqb (next_event g (to a)) (to b)) p)
 
-  value_along : (e : ℕ) → field_or f 5 0 e + 256 * field_or f 6 0 e ≡ field_or g 5 0 (to e) + 256 * field_or g 6 0 (to e)
-  unfolding contents
-  value_along e = value_word f e ∙ record_along (λ x. 0) (λ x. word_at f x 5) (λ x. word_at g x 5) w.renumbers.low e ∙ sym (value_word g (to e))
-
   decoded_along : decode f ≡ renamed to (decode g)
   unfolding decode renamed contents
   decoded_along =
       let R = w.renumbers in
+      let low = field_along 5 0 R.low in
+      let high = field_along 6 0 R.high in
       λ i. record {
         class = fun_ext (field_along 1 2 R.class) i;
         mode = fun_ext (field_along 2 0 R.mode) i;
         flag = fun_ext (field_along 3 0 R.flag) i;
         location = fun_ext (record_along (λ e. e - 56) (λ e. event_byte f e 4) (λ e. event_byte g e 4) R.location) i;
-        value = fun_ext value_along i;
+        value = λ e. low e i + 256 * high e i;
         initial = fun_ext initial_along i;
         recorded = fun_ext recorded_along i;
         next = λ a b. next_along a b i;

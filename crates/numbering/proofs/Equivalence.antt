@@ -1,13 +1,11 @@
 -- Files that differ in their numbering only: an equivalence between the files that load.
 use mathlib.Core.Path.{◌≡◌, refl, sym, ap, ap₂, ◌∙◌}
-use Prim.Native.Nat.{ℕ, ◌<◌, ◌≤◌}
+use Prim.Native.Nat.{ℕ, ◌≤◌}
 use native.Mathlib.Omega.{arith}
-use lib.Dec.{ltb}
 use Rattle.relation.specs.Rel.{Set}
-use Rattle.layout.specs.Layout.{heads_of}
-use Rattle.encoding.specs.Contents.{Contents, contents}
+use Rattle.translation.specs.Contents.{Contents, contents}
 use Rattle.numbering.specs.Numbering.{Renumbering, numbers_to, Renumbers, Equivalence}
-use Rattle.numbering.proofs.Renumberings.{kept_in, within, reversed, numbers_is, numbers_intro, numbers_fewer, thread_within, threads_as, moved_within}
+use Rattle.numbering.proofs.Renumberings.{kept_in, within, reversed, numbers_is, numbers_intro, numbers_fewer, thread_within, moved_within}
 
 -- The way back.
 module _ {s c : Contents} (w : Renumbers s c) where
@@ -30,8 +28,8 @@ module _ {s c : Contents} (w : Renumbers s c) where
         events = sym w.events;
         locations = sym w.locations;
         event = within (reversed n) (numbers_to c.events) (numbers_fewer s.events c.events (omega (arith, w.events)));
-        thread = within (reversed w.thread) (λ t. ltb t (heads_of c.kind)) (threads_as (heads_of s.kind) (heads_of c.kind) (ap heads_of (sym w.kind)));
-        head = λ t h. (let u = w.thread.back t in let k = thread_within (heads_of s.kind) (reversed w.thread) t (omega (arith, h, ap heads_of w.kind)) in
+        thread = reversed w.thread;
+        head = λ t h. (let u = w.thread.back t in let k = thread_within (reversed w.thread) t h in
             sym (n.back_to (s.head u)) ∙ ap n.back (sym (w.head u k) ∙ ap c.head (w.thread.to_back t)));
         next = λ e h g. (let b = back_within e h g in
             sym (n.back_to (s.next (n.back e))) ∙ ap n.back (sym (w.next (n.back e) b.0 b.1) ∙ ap c.next (n.to_back e)));
@@ -75,8 +73,8 @@ module _ {s c d : Contents} (w : Renumbers s c) (v : Renumbers c d) where
         events = v.events ∙ w.events;
         locations = v.locations ∙ w.locations;
         event = twice w.event (within v.event (numbers_to s.events) (numbers_fewer c.events s.events (omega (arith, w.events))));
-        thread = twice w.thread (within v.thread (λ t. ltb t (heads_of s.kind)) (threads_as (heads_of c.kind) (heads_of s.kind) (ap heads_of w.kind)));
-        head = λ t h. v.head (w.thread.to t) (omega (arith, thread_within (heads_of s.kind) w.thread t h, ap heads_of w.kind)) ∙ ap v.event.to (w.head t h);
+        thread = twice w.thread v.thread;
+        head = λ t h. v.head (w.thread.to t) (thread_within w.thread t h) ∙ ap v.event.to (w.head t h);
         next = λ e h g. (let m = moved_within w e h g in v.next (w.event.to e) m.0 m.1 ∙ ap v.event.to (w.next e h g));
         class = field_twice s.class c.class d.class w.class v.class;
         mode = field_twice s.mode c.mode d.mode w.mode v.mode;

@@ -13,14 +13,14 @@ use Rattle.relation.specs.Rel.{Set, some, below}
 use Rattle.relation.proofs.Truth.{same_test, and_left, and_right, and_both}
 use Rattle.relation.proofs.Meaning.{some_sound, some_complete, mem_below}
 use Rattle.models.specs.Rules.{first}
-use Rattle.layout.specs.Layout.{events, link_byte, heads_of, ranged_of, event_size_of, event_place, link_start_of}
+use Rattle.layout.specs.Layout.{events, link_byte, threads}
 use Rattle.layout.specs.Chains.{each, all_of, follow, next_of, start_of, head, links_into}
 use Rattle.layout.specs.Decode.{is_recorded, decode}
 use Rattle.layout.proofs.ChainLaws.{each_at}
 use Rattle.layout.proofs.FieldLaws.{recorded_bounds}
 use Rattle.recording.specs.Causes.{refusal}
 use Rattle.recording.proofs.Accepted.{all_of_some}
-use Rattle.encoding.specs.Contents.{word_at, contents}
+use Rattle.translation.specs.Contents.{contents}
 use Rattle.litmus.specs.Table.{strong_pair}
 use Rattle.litmus.proofs.EvaluatedLoading.{evaluated, passes_loads}
 use Rattle.numbering.specs.Numbering.{Renumbering, numbers_to, Renumbered}
@@ -147,12 +147,12 @@ numbers : Renumbering (numbers_to (events one))
 unfolding at numbers_to all_of below strong_pair new_numbers
 numbers = tabled (numbers_to (events one)) 7 new_numbers (0 ∷ 3 ∷ 1 ∷ 4 ∷ 6 ∷ 5 ∷ 2 ∷ []) (omega arith) (omega arith) refl refl refl
 
-threads_moved : Renumbering (λ t. ltb t (heads_of 1))
-unfolding at all_of below new_threads heads_of
-threads_moved = tabled (λ t. ltb t (heads_of 1)) 4 new_threads (3 ∷ 0 ∷ 2 ∷ 1 ∷ []) (omega arith) (omega arith) refl refl refl
+threads_moved : Renumbering (λ t. ltb t threads)
+unfolding at all_of below new_threads
+threads_moved = tabled (λ t. ltb t threads) 4 new_threads (3 ∷ 0 ∷ 2 ∷ 1 ∷ []) (omega arith) (omega arith) refl refl refl
 
 pub example : Renumbered one other
-unfolding contents word_at head heads_of ranged_of event_size_of event_place link_start_of numbers threads_moved tabled at each all_of below some matches carried follow next_of start_of strong_pair other new_numbers new_threads
+unfolding contents numbers threads_moved tabled at each all_of below some matches carried follow next_of start_of strong_pair other new_numbers new_threads
 example = record {
   loads = one_loads;
   loads_too = other_loads;

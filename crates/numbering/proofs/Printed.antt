@@ -8,7 +8,7 @@ use Rattle.layout.specs.Layout.{side, side_of}
 use Rattle.recording.specs.Load.{LoadsAs}
 use Rattle.verdict.specs.Answer.{answers}
 use Rattle.verdict.specs.Shown.{events}
-use Rattle.encoding.specs.Contents.{contents}
+use Rattle.translation.specs.Contents.{contents}
 use Rattle.soundness.specs.Soundness.{imm_verdict, armv8_verdict, tso_verdict}
 use Rattle.lines.specs.Lines.{source, chip, tso, line_of}
 use Rattle.judgement.specs.Judgement.{Prints}

@@ -9,9 +9,9 @@ use borrow.Author.Tests.{eqb-true, eq-eqb, leb-true, le-leb, lt-ltb, ltb-true}
 use lib.Dec.{eqb, leb, ltb}
 use Rattle.relation.specs.Rel.{Set}
 use Rattle.relation.proofs.Truth.{is_false, same_test, by_test, and_left, and_right, and_both}
-use Rattle.layout.specs.Layout.{events}
+use Rattle.layout.specs.Layout.{events, threads}
 use Rattle.layout.specs.Decode.{is_recorded}
-use Rattle.encoding.specs.Contents.{Contents}
+use Rattle.translation.specs.Contents.{Contents}
 use Rattle.numbering.specs.Numbering.{Renumbering, numbers_to, Renumbers}
 
 module _ {s : Set} (n : Renumbering s) where
@@ -61,11 +61,8 @@ unfolding is_recorded numbers_to
 recorded_moved f g n same e = ap (λ (m : ℕ). leb 1 (n.to e) && leb (n.to e) m) same ∙ kept_in n e
 
 -- The threads.
-pub thread_within : (k : ℕ) (n : Renumbering (λ t. ltb t k)) (t : ℕ) → t < k → n.to t < k
-thread_within k n t h = ltb-true (n.to t) k (kept_in n t ∙ lt-ltb t k h)
-
-pub threads_as : (h k : ℕ) → h ≡ k → (t : ℕ) → ltb t k ≡ false → ltb t h ≡ false
-threads_as h k e t p = ap (λ (x : ℕ). ltb t x) e ∙ p
+pub thread_within : (n : Renumbering (λ t. ltb t threads)) (t : ℕ) → t < threads → n.to t < threads
+thread_within n t h = ltb-true (n.to t) threads (kept_in n t ∙ lt-ltb t threads h)
 
 -- The events of contents.
 pub moved_within : {s c : Contents} (w : Renumbers s c) (e : ℕ) → 1 ≤ e → e ≤ s.events → (1 ≤ w.event.to e) × (w.event.to e ≤ c.events)

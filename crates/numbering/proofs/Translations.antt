@@ -10,20 +10,19 @@ use lib.Dec.{eqb, leb, ltb}
 use Rattle.relation.specs.Rel.{count}
 use Rattle.relation.proofs.Truth.{same_test, by_test, and_left, and_right, and_both}
 use Rattle.relation.proofs.Counting.{count_lt, count_injective, count_inject}
-use Rattle.layout.specs.Layout.{heads_of, chip_of}
-use Rattle.encoding.specs.Contents.{Contents}
+use Rattle.layout.specs.Layout.{threads}
+use Rattle.translation.specs.Contents.{Contents}
 use Rattle.translation.specs.Translate.{flagged, exclusive, strong, inserted, new_events, fenced, after, kept_or, new_mode, new_flag, controlled, new_link, translated}
 use Rattle.translation.proofs.TranslateLaws as law
 use Rattle.translation.proofs.TranslateLaws.{flagged_is, flagged_intro, Linked, stays, exclusively, casdep}
 use Rattle.numbering.specs.Numbering.{Renumbering, numbers_to, Renumbers}
-use Rattle.numbering.proofs.Renumberings.{injective, within, reversed, numbers_is, numbers_intro, numbers_fewer, threads_as, moved_within}
+use Rattle.numbering.proofs.Renumberings.{injective, within, reversed, numbers_is, numbers_intro, numbers_fewer, moved_within}
 use Rattle.numbering.proofs.Equivalence.{renumbers_back}
 
 -- What loading ensures of the contents of a source file: events are few, and chains and links join events.
 pub record Sourced (s : Contents) : Type 0 where
   pub few : new_events s < 56
-  pub head : (t : ℕ) → t < heads_of s.kind → s.head t ≤ s.events
-  pub heads : heads_of (chip_of s.kind) ≡ heads_of s.kind
+  pub head : (t : ℕ) → t < threads → s.head t ≤ s.events
   pub next : (e : ℕ) → 1 ≤ e → e ≤ s.events → s.next e ≤ s.events
   pub source : (t a b : ℕ) → s.link t a b ≡ true → (a ≤ s.events) ⊎ (56 ≤ a)
   pub target : (t a b : ℕ) → s.link t a b ≡ true → (1 ≤ b) × (b ≤ s.events)
@@ -232,7 +231,7 @@ module _ {s c : Contents} (w : Renumbers s c) (given : Sourced s) (given' : Sour
   unfolding translated renumbers_back reversed within
   translated_renumbers =
       record {
-        kind = ap chip_of w.kind;
+        kind = refl;
         events = same_new w given;
         locations = w.locations;
         event = record {
@@ -242,8 +241,8 @@ module _ {s c : Contents} (w : Renumbers s c) (given : Sourced s) (given' : Sour
           to_back = returns (renumbers_back w) given' given;
           others = renew_outside w given;
         };
-        thread = within w.thread (λ t. ltb t (heads_of (chip_of s.kind))) (threads_as (heads_of s.kind) (heads_of (chip_of s.kind)) (sym given.heads));
-        head = λ t h. (let k : t < heads_of s.kind = omega (arith, h, given.heads) in w.head t k ∙ sym (renew_old w given (s.head t) (given.head t k)));
+        thread = w.thread;
+        head = λ t h. w.head t h ∙ sym (renew_old w given (s.head t) (given.head t h));
         next = after_along w given;
         class = kept_along w given s.class c.class 3 w.class;
         mode = kept_along w given (new_mode s) (new_mode c) 5 (mode_along w given);

@@ -4,9 +4,9 @@
 -- twins again. The ring and the allowed order may differ, since they go by number."
 use Rattle.std.specs.Prelude.{◌≡◌, false, ◌&&◌, List, ℕ, ◌<◌, ◌≤◌, leb, ltb}
 use Rattle.relation.specs.Rel.{Set}
-use Rattle.layout.specs.Layout.{source, side, heads_of}
+use Rattle.layout.specs.Layout.{source, side, threads}
 use Rattle.recording.specs.Causes.{refusal}
-use Rattle.encoding.specs.Contents.{Contents, contents}
+use Rattle.translation.specs.Contents.{Contents, contents}
 use Rattle.translation.specs.Translation.{translation}
 use Rattle.soundness.specs.Soundness.{imm_verdict, armv8_verdict, tso_verdict}
 
@@ -28,9 +28,9 @@ pub record Renumbers (s c : Contents) : Type 0 where
   pub events : c.events ≡ s.events
   pub locations : c.locations ≡ s.locations
   pub event : Renumbering (numbers_to s.events)
-  pub thread : Renumbering (λ t. ltb t (heads_of s.kind))
+  pub thread : Renumbering (λ t. ltb t threads)
   -- The chains: an empty thread's head and the end of a chain are 0, and 0 stays.
-  pub head : (t : ℕ) → t < heads_of s.kind → c.head (thread.to t) ≡ event.to (s.head t)
+  pub head : (t : ℕ) → t < threads → c.head (thread.to t) ≡ event.to (s.head t)
   pub next : (e : ℕ) → 1 ≤ e → e ≤ s.events → c.next (event.to e) ≡ event.to (s.next e)
   -- What an event's record says.
   pub class : (e : ℕ) → 1 ≤ e → e ≤ s.events → c.class (event.to e) ≡ s.class e

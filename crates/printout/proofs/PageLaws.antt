@@ -3,14 +3,12 @@ use mathlib.Core.Path.{◌≡◌, refl, sym, ap, subst, ◌∙◌}
 use mathlib.Core.List.{List, [], ◌∷◌, ◌++◌, append_assoc, append-nil}
 use Prim.Native.Nat.{ℕ, zero, suc, ◌+◌, ◌*◌, ◌<◌, ◌≤◌}
 use native.Mathlib.Numerals.{add-one}
-use native.Mathlib.Nat.{mul-zero, mul-suc, mul-le-mul_left, mul-le-mul}
 use native.Mathlib.Omega.{arith}
 use native.Mathlib.Decide.{dec_lt}
 use borrow.Author.Tests.{lt-ltb, le-ltb}
 use lib.ListN.{length, get_or, length-append}
 use Rattle.models.specs.Recording.{Recording}
-use Rattle.layout.specs.Layout.{kind, threads, heads}
-use Rattle.layout.proofs.PlaceLaws.{heads_bounds}
+use Rattle.layout.specs.Layout.{threads}
 use Rattle.layout.specs.Chains.{thread}
 use Rattle.layout.specs.Decode.{decode}
 use Rattle.recording.specs.Causes.{refusal}
@@ -68,101 +66,75 @@ module _ (f : List ℕ) where
         ap length (blocks_last (decode f) ring k (thread_lists f t) (thread f t)) ∙ length-append (blocks (decode f) ring k (thread_lists f t)) _
         ∙ omega (arith, blocks_size k t (omega arith), at_size k t (omega arith))
 
-    line_size_lem : (b k : ℕ) → b ≤ threads → length (line (decode f) ring k (thread_lists f b)) ≡ line_size b
+    line_size_lem : (k : ℕ) → length (line (decode f) ring k (thread_lists f threads)) ≡ line_size threads
     unfolding line
-    line_size_lem b k h = length-append (blocks (decode f) ring k (thread_lists f b)) (10 ∷ []) ∙ omega (arith, blocks_size k b h)
+    line_size_lem k = length-append (blocks (decode f) ring k (thread_lists f threads)) (10 ∷ []) ∙ omega (arith, blocks_size k threads (omega arith))
 
-    lines_size : (b n : ℕ) → b ≤ threads → length (lines (decode f) ring n (thread_lists f b)) ≡ line_size b * n
+    lines_size : (n : ℕ) → length (lines (decode f) ring n (thread_lists f threads)) ≡ line_size threads * n
     unfolding lines
-    lines_size b zero h = sym (mul-zero (line_size b))
-    lines_size b (suc n) h = length-append (lines (decode f) ring n (thread_lists f b)) _ ∙ omega (arith, lines_size b n h, line_size_lem b n h, mul-suc (line_size b) n)
+    lines_size zero = refl
+    lines_size (suc n) = length-append (lines (decode f) ring n (thread_lists f threads)) _ ∙ omega (arith, lines_size n, line_size_lem n)
 
     -- A page is as long as its lines.
-    pub page_size : length (page f ring) ≡ line_size (heads f) * longest (thread_lists f (heads f))
+    pub page_size : length (page f ring) ≡ line_size threads * longest (thread_lists f threads)
     unfolding page_of
-    page_size = lines_size (heads f) (longest (thread_lists f (heads f))) (omega (arith, heads_bounds (kind f)))
+    page_size = lines_size (longest (thread_lists f threads))
 
--- Lines of at most eight blocks are short.
-pub lines_few : (b n : ℕ) → b ≤ threads → n ≤ 18 → line_size b * n ≤ 2898
-lines_few b n h g = mul-le-mul {n₁ = line_size b} {m₁ = n} {n₂ = 161} {m₂ = 18} (omega arith) g
-
--- The blocks of the first t threads are written in line k, at a place; a line has b blocks.
-pub record BlocksWritten (f stars out₀ : List ℕ) (b place k t : ℕ) (out : List ℕ) : Type 0 where
-  pub within : t ≤ b
-  pub few : b ≤ threads
-  pub small : place ≤ 2898
-  pub room : place + line_size b ≤ length out₀
+-- The blocks of the first t threads are written in line k.
+pub record BlocksWritten (f stars out₀ : List ℕ) (k t : ℕ) (out : List ℕ) : Type 0 where
+  pub within : t ≤ threads
+  pub room : line_size threads * (k + 1) ≤ length out₀
   pub long : length out ≡ length out₀
-  pub placing : (ring : List ℕ) → Members ring stars → Placing out₀ place (blocks (decode f) ring k (thread_lists f t)) out
+  pub placing : (ring : List ℕ) → Members ring stars → Placing out₀ (line_size threads * k) (blocks (decode f) ring k (thread_lists f t)) out
 
--- The first n lines of b blocks are written, and there is room for `all`.
-pub record LinesWritten (f stars out₀ : List ℕ) (b all n place : ℕ) (out : List ℕ) : Type 0 where
-  pub few : b ≤ threads
-  pub lines_few : all ≤ 18
-  pub at : place ≡ line_size b * n
-  pub room : line_size b * all ≤ length out₀
+-- The first n lines are written, and there is room for `all`.
+pub record LinesWritten (f stars out₀ : List ℕ) (all n : ℕ) (out : List ℕ) : Type 0 where
+  pub room : line_size threads * all ≤ length out₀
   pub long : length out ≡ length out₀
-  pub placing : (ring : List ℕ) → Members ring stars → Placing out₀ 0 (lines (decode f) ring n (thread_lists f b)) out
+  pub placing : (ring : List ℕ) → Members ring stars → Placing out₀ 0 (lines (decode f) ring n (thread_lists f threads)) out
 
-module _ (f stars out₀ : List ℕ) (b : ℕ) where
-  pub blocks_none : (place k : ℕ) → b ≤ threads → place ≤ 2898 → place + line_size b ≤ length out₀ → BlocksWritten f stars out₀ b place k 0 out₀
+module _ (f stars out₀ : List ℕ) where
+  pub blocks_none : (k : ℕ) → line_size threads * (k + 1) ≤ length out₀ → BlocksWritten f stars out₀ k 0 out₀
   unfolding thread_lists blocks
-  blocks_none place k few small h =
-      record { within = omega arith; few = few; small = small; room = h; long = refl; placing = λ ring w. placing_none out₀ place _ refl (omega arith) }
+  blocks_none k h = record { within = omega arith; room = h; long = refl; placing = λ ring w. placing_none out₀ (line_size threads * k) _ refl (omega arith) }
 
-  pub lines_none : (all : ℕ) → b ≤ threads → all ≤ 18 → line_size b * all ≤ length out₀ → LinesWritten f stars out₀ b all 0 0 out₀
+  pub lines_none : (all : ℕ) → line_size threads * all ≤ length out₀ → LinesWritten f stars out₀ all 0 out₀
   unfolding lines
-  lines_none all few most h =
-      record { few = few; lines_few = most; at = sym (mul-zero (line_size b)); room = h; long = refl; placing = λ ring w. placing_none out₀ 0 _ refl (omega arith) }
-
-  -- There is room for one line more.
-  pub lines_room : {all n place : ℕ} {out : List ℕ} → LinesWritten f stars out₀ b all n place out → n < all → (place + line_size b ≤ length out) × (place + line_size b ≤ 2898)
-  lines_room {all} {n} w h =
-      let more = mul-le-mul_left {m = suc n} {n = all} (line_size b) (omega arith) in
-      let most = lines_few b all w.few w.lines_few in
-      (omega (arith, w.at, w.room, w.long, more, mul-suc (line_size b) n), omega (arith, w.at, more, mul-suc (line_size b) n, most))
+  lines_none all h = record { room = h; long = refl; placing = λ ring w. placing_none out₀ 0 _ refl (omega arith) }
 
   module _ (loads : refusal f ≡ 0) where
-    pub blocks_written : {place k t : ℕ} {out bytes more : List ℕ} → BlocksWritten f stars out₀ b place k t out → t < b → length bytes ≡ block_width
-        → ((ring : List ℕ) → Members ring stars → bytes ≡ block_at (decode f) ring k (thread f t)) → more ≡ placed out (place + block_width * t) bytes
-        → BlocksWritten f stars out₀ b place k (t + 1) more
-    blocks_written {place} {k} {t} {out} {bytes} w h size e p =
+    pub blocks_written : {k t : ℕ} {out bytes more : List ℕ} → BlocksWritten f stars out₀ k t out → t < threads → length bytes ≡ block_width
+        → ((ring : List ℕ) → Members ring stars → bytes ≡ block_at (decode f) ring k (thread f t)) → more ≡ placed out (line_size threads * k + block_width * t) bytes
+        → BlocksWritten f stars out₀ k (t + 1) more
+    blocks_written {k} {t} {out} {bytes} w h size e p =
         record {
           within = omega arith;
-          few = w.few;
-          small = w.small;
           room = w.room;
-          long = ap length p ∙ length_placed out (place + block_width * t) bytes (omega (arith, w.room, w.long)) ∙ w.long;
-          placing = λ ring m. placing_more bytes (w.placing ring m) (omega (arith, blocks_size f loads ring k t (omega (arith, w.few)))) p
-              (ap (◌++◌ (blocks (decode f) ring k (thread_lists f t))) (e ring m) ∙ sym (blocks_more f ring k t))
-              (omega (arith, w.room, blocks_size f loads ring k (t + 1) (omega (arith, w.few))));
+          long = ap length p ∙ length_placed out (line_size threads * k + block_width * t) bytes (omega (arith, w.room, w.long)) ∙ w.long;
+          placing = λ ring m. placing_more bytes (w.placing ring m) (omega (arith, blocks_size f loads ring k t (omega arith))) p
+              (ap (◌++◌ (blocks (decode f) ring k (thread_lists f t))) (e ring m) ∙ sym (blocks_more f ring k t)) (omega (arith, w.room, blocks_size f loads ring k (t + 1) (omega arith)));
         }
 
-    pub line_written : {place k t : ℕ} {out left : List ℕ} → BlocksWritten f stars out₀ b place k t out → b ≤ t
-        → left ≡ placed out (place + block_width * b) (10 ∷ [])
-        → (ring : List ℕ) → Members ring stars → left ≡ placed out₀ place (line (decode f) ring k (thread_lists f b))
+    pub line_written : {k t : ℕ} {out left : List ℕ} → BlocksWritten f stars out₀ k t out → threads ≤ t
+        → left ≡ placed out (line_size threads * k + block_width * threads) (10 ∷ [])
+        → (ring : List ℕ) → Members ring stars → left ≡ placed out₀ (line_size threads * k) (line (decode f) ring k (thread_lists f threads))
     unfolding line
-    line_written {place} {k} {t} {out} w h p ring m =
-        let all : t ≡ b = omega (arith, w.within) in
-        let placing = subst (λ (n : ℕ). Placing out₀ place (blocks (decode f) ring k (thread_lists f n)) out) all (w.placing ring m) in
-        (placing_more (10 ∷ []) placing (omega (arith, blocks_size f loads ring k b w.few)) p refl (omega (arith, w.room, line_size_lem f loads ring b k w.few))).done
+    line_written {k} {t} {out} w h p ring m =
+        let all : t ≡ threads = omega (arith, w.within) in
+        let placing = subst (λ (n : ℕ). Placing out₀ (line_size threads * k) (blocks (decode f) ring k (thread_lists f n)) out) all (w.placing ring m) in
+        (placing_more (10 ∷ []) placing (omega (arith, blocks_size f loads ring k threads (omega arith))) p refl (omega (arith, w.room, line_size_lem f loads ring k))).done
 
-    pub lines_written : {all n place : ℕ} {out more : List ℕ} → LinesWritten f stars out₀ b all n place out → n < all → length more ≡ length out
-        → ((ring : List ℕ) → Members ring stars → more ≡ placed out place (line (decode f) ring n (thread_lists f b)))
-        → LinesWritten f stars out₀ b all (n + 1) (place + line_size b) more
+    pub lines_written : {all n : ℕ} {out more : List ℕ} → LinesWritten f stars out₀ all n out → n < all → length more ≡ length out
+        → ((ring : List ℕ) → Members ring stars → more ≡ placed out (line_size threads * n) (line (decode f) ring n (thread_lists f threads)))
+        → LinesWritten f stars out₀ all (n + 1) more
     unfolding lines
-    lines_written {all} {n} {place} w h size e =
-        let one = mul-le-mul_left {m = suc n} {n = all} (line_size b) (omega arith) in
+    lines_written {all} {n} w h size e =
         rw (add-one n) (record {
-          few = w.few;
-          lines_few = w.lines_few;
-          at = omega (arith, w.at, mul-suc (line_size b) n);
           room = w.room;
           long = size ∙ w.long;
-          placing = λ ring m. placing_more _ (w.placing ring m) (omega (arith, lines_size f loads ring b n w.few, w.at)) (e ring m) refl
-              (omega (arith, w.room, one, lines_size f loads ring b (suc n) w.few));
+          placing = λ ring m. placing_more _ (w.placing ring m) (omega (arith, lines_size f loads ring n)) (e ring m) refl (omega (arith, w.room, lines_size f loads ring (suc n)));
         })
 
-    pub lines_all : {all n place : ℕ} {out : List ℕ} → LinesWritten f stars out₀ b all n place out → n ≡ all
-        → (ring : List ℕ) → Members ring stars → out ≡ placed out₀ 0 (lines (decode f) ring all (thread_lists f b))
-    lines_all w e ring m = (w.placing ring m).done ∙ ap (λ (i : ℕ). placed out₀ 0 (lines (decode f) ring i (thread_lists f b))) e
+    pub lines_all : {all n : ℕ} {out : List ℕ} → LinesWritten f stars out₀ all n out → n ≡ all
+        → (ring : List ℕ) → Members ring stars → out ≡ placed out₀ 0 (lines (decode f) ring all (thread_lists f threads))
+    lines_all w e ring m = (w.placing ring m).done ∙ ap (λ (i : ℕ). placed out₀ 0 (lines (decode f) ring i (thread_lists f threads))) e

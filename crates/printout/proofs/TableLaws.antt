@@ -8,8 +8,7 @@ use native.Mathlib.Omega.{arith}
 use native.Mathlib.Decide.{ℕ_discrete}
 use lib.ListN.{length, get_or, set, length-set, length-append, length-take, get_or-append}
 use lib.Seq.{get_or-set_same, get_or-set_other, get_or-take, get_or-append-add}
-use Rattle.layout.specs.Layout.{kind, side, events, threads, heads}
-use Rattle.layout.proofs.PlaceLaws.{heads_bounds}
+use Rattle.layout.specs.Layout.{side, events, threads}
 use Rattle.layout.specs.Chains.{met, thread, threads_up_to}
 use Rattle.layout.proofs.FieldLaws.{most_in_thread_18}
 use Rattle.recording.specs.Causes.{refusal}
@@ -92,8 +91,8 @@ longest_more f r n t p q =
     ap₂ max p q ∙ sym (longest_last (thread_lists f t) (thread f t)) ∙ ap (λ (k : ℕ). longest (thread_lists f k)) (sym (add-one t))
 
 -- A page has at most 18 lines.
-pub few_lines : (f : List ℕ) → refusal f ≡ 0 → longest (thread_lists f (heads f)) ≤ 18
-few_lines f loads = upto (heads f) (omega (arith, heads_bounds (kind f)))
+pub few_lines : (f : List ℕ) → refusal f ≡ 0 → longest (thread_lists f threads) ≤ 18
+few_lines f loads = upto threads (omega arith)
   where
     upto : (t : ℕ) → t ≤ threads → longest (thread_lists f t) ≤ 18
     upto zero h = omega (arith, longest_none f)

@@ -1,7 +1,7 @@
 -- The printed page of a recording and a ring (02, slip 2), as bytes in ASCII.
 use Rattle.std.specs.Prelude.{true, false, List, [], ◌∷◌, ◌++◌, ℕ, zero, suc, ◌+◌, ◌*◌, max, eqb, ltb, length, get_or}
 use Rattle.models.specs.Recording.{Recording}
-use Rattle.layout.specs.Layout.{heads}
+use Rattle.layout.specs.Layout.{threads}
 use Rattle.layout.specs.Chains.{among, thread}
 use Rattle.layout.specs.Decode.{decode}
 use Rattle.decimal.specs.Decimal.{digit, spaces, aligned}
@@ -69,6 +69,6 @@ unfoldable pub thread_lists : List ℕ → ℕ → List (List ℕ)
 thread_lists f zero = []
 thread_lists f (suc n) = thread_lists f n ++ (thread f n ∷ [])
 
--- The page of the recording that a file holds: a block for each head of its header.
+-- The page of the recording that a file holds.
 abbrev pub page : List ℕ → List ℕ → List ℕ
-page f ring = page_of (decode f) (thread_lists f (heads f)) ring
+page f ring = page_of (decode f) (thread_lists f threads) ring

@@ -9,13 +9,12 @@ ghost use Rattle.recording.specs.Causes.{refusal};
 ghost use Rattle.output.specs.Output.{Fills};
 ghost use Rattle.printout.specs.Page.{page};
 
-use layout::field;
 use output::Filled;
 use reading::thread;
 use recording::causes;
 
-// A page has at most so many bytes: 18 lines of four blocks.
-pub const MOST: usize = 1458;
+// A page has at most so many bytes: 18 lines.
+pub const MOST: usize = 18 * write::LINE;
 
 // Writes the page of a file, on which the events of the ring have a star, to the start of the output. Refused with 1 to 10 or 13 as loading
 // does, with 12 where the output is shorter than the page; a refusal leaves the output as it was.
@@ -35,8 +34,7 @@ pub fn written(file: &[u8], ring: &[u8], out: &mut [u8]) -> Filled
     ensures { Fills (refusal file.now) (page file.now ring.now) out.old result out.new }
 {
     let n = table::longest(file);
-    let blocks = field::heads(file);
-    let length = (block::WIDTH * blocks + 1) * n;
+    let length = write::LINE * n;
     if out.len() < length {
         return Filled::Refused(12);
     }
@@ -44,6 +42,6 @@ pub fn written(file: &[u8], ring: &[u8], out: &mut [u8]) -> Filled
     let starts = table::starts(file);
     let line = thread::line(file);
     let at = line.at;
-    write::lines(out, file, stars, at, starts, blocks, n);
+    write::lines(out, file, stars, at, starts, n);
     Filled::Written(length)
 }

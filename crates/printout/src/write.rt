@@ -11,8 +11,11 @@ ghost use Rattle.printout.specs.Table.{Members, Table};
 
 use crate::block;
 use crate::block::WIDTH;
-use crate::table::STARTS;
+use crate::table::{BLOCKS, STARTS};
 use relation::row::Row;
+
+// The bytes of a line: its blocks and a line feed.
+pub const LINE: usize = WIDTH * BLOCKS + 1;
 
 // The block of thread t in line k, from 0.
 fn block_at(
@@ -33,50 +36,31 @@ fn block_at(
     block::block(file, stars, at[i] as usize)
 }
 
-// Writes line k at a place: the blocks of the first threads, and a line feed.
-fn line(
-    out: &mut [u8],
-    file: &[u8],
-    stars: Row,
-    at: [u8; 64],
-    starts: [u8; STARTS],
-    blocks: usize,
-    place: usize,
-    k: usize,
-)
-    requires { (refusal file.now ≡ 0) × Table file.now at starts × (k < 18) × (blocks ≤ threads) × (place ≤ 2898) × (place + line_size blocks ≤ length out.old) }
+// Writes line k behind those before it.
+fn line(out: &mut [u8], file: &[u8], stars: Row, at: [u8; 64], starts: [u8; STARTS], k: usize)
+    requires { (refusal file.now ≡ 0) × Table file.now at starts × (k < 18) × (line_size threads * (k + 1) ≤ length out.old) }
     ensures long { length out.new ≡ length out.old }
-    ensures line { (ring : List ℕ) → Members ring stars → out.new ≡ placed out.old place (line (decode file.now) ring k (thread_lists file.now blocks)) }
+    ensures line { (ring : List ℕ) → Members ring stars → out.new ≡ placed out.old (line_size threads * k) (line (decode file.now) ring k (thread_lists file.now threads)) }
 {
     let mut t: usize = 0;
-    while t < blocks {
+    while t < BLOCKS {
         let bytes = block_at(file, stars, at, starts, t, k);
-        output::put(out, place + WIDTH * t, &bytes);
+        output::put(out, LINE * k + WIDTH * t, &bytes);
         t += 1;
     }
-    output::put(out, place + WIDTH * blocks, b"\n");
+    output::put(out, LINE * k + WIDTH * BLOCKS, b"\n");
 }
 
-// Writes the first n lines of so many blocks.
-pub fn lines(
-    out: &mut [u8],
-    file: &[u8],
-    stars: Row,
-    at: [u8; 64],
-    starts: [u8; STARTS],
-    blocks: usize,
-    n: usize,
-)
-    requires { (refusal file.now ≡ 0) × Table file.now at starts × (n ≤ 18) × (blocks ≤ threads) × (line_size blocks * n ≤ length out.old) }
-    ensures { (ring : List ℕ) → Members ring stars → out.new ≡ placed out.old 0 (lines (decode file.now) ring n (thread_lists file.now blocks)) }
+// Writes the first n lines.
+pub fn lines(out: &mut [u8], file: &[u8], stars: Row, at: [u8; 64], starts: [u8; STARTS], n: usize)
+    requires { (refusal file.now ≡ 0) × Table file.now at starts × (n ≤ 18) × (line_size threads * n ≤ length out.old) }
+    ensures { (ring : List ℕ) → Members ring stars → out.new ≡ placed out.old 0 (lines (decode file.now) ring n (thread_lists file.now threads)) }
 {
     let mut k: usize = 0;
-    let mut place: usize = 0;
     let mut left = n;
     while 0 < left {
-        line(out, file, stars, at, starts, blocks, place, k);
+        line(out, file, stars, at, starts, k);
         k += 1;
-        place += WIDTH * blocks + 1;
         left -= 1;
     }
 }

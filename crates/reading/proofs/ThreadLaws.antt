@@ -67,6 +67,10 @@ module _ (limit : ℕ) (next : ℕ → ℕ) where
       fresh_length limit [] (met limit next start j) (fresh_upto limit next start n j h p)
       (λ x m. let w = met_cases limit next start j x m in follow_positive limit next (suc limit) (start w.0) x w.2)
 
+-- The chain of a thread, from the number of records and the head as they were read.
+pub length_is : (f : List ℕ) (t n x k : ℕ) → n ≡ events f → x ≡ head f t → k ≡ length (chain n (next_of f 8 8) x) → k ≡ length (thread f t)
+length_is f t n x k e h p = p ∙ ap₂ (λ (i j : ℕ). length (chain i (next_of f 8 8) j)) e h
+
 pub line_none : (f at : List ℕ) → Line f 0 0 at
 unfolding met
 line_none f at = record { bounded = omega arith; listed = refl }

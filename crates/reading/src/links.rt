@@ -9,7 +9,8 @@ ghost use Rattle.layout.specs.Decode.{decode};
 ghost use Rattle.reading.specs.Sets.{SourcesInto};
 ghost use Rattle.reading.specs.Readable.{readable};
 
-use layout::{field, walk};
+use layout::chain::Cursor;
+use layout::field;
 use relation::row;
 use relation::row::Row;
 
@@ -18,9 +19,10 @@ pub fn sources(file: &[u8], b: usize, t: usize) -> Row
     requires { Sized file.now × (1 ≤ b) × (b ≤ events file.now) × (all_of (links_into file.now b) (readable file.now) ≡ true) }
     ensures { bit result ≡ inverse ((decode file.now).link t) b }
 {
+    let from = 8 + 8 * field::events(file);
     let mut r = row::none();
     let mut n = field::links(file) + 1;
-    let mut cursor = walk::first_link(file, b);
+    let mut cursor = Cursor::start(file, 15, 8, b - 1);
     while 0 < n {
         let m = cursor.at;
         if m == 0 {
@@ -30,7 +32,7 @@ pub fn sources(file: &[u8], b: usize, t: usize) -> Row
         if field::link_byte(file, m, 1) == t {
             r = more;
         }
-        let next = walk::next_link(cursor, file);
+        let next = cursor.moved(file, from, 4);
         cursor = next;
         n -= 1;
     }
@@ -42,9 +44,10 @@ pub fn by_type(file: &[u8], b: usize) -> [Row; 8]
     requires { Sized file.now × (1 ≤ b) × (b ≤ events file.now) × (all_of (links_into file.now b) (readable file.now) ≡ true) }
     ensures { SourcesInto file.now b result }
 {
+    let from = 8 + 8 * field::events(file);
     let mut h = [[0u8; 8]; 8];
     let mut n = field::links(file) + 1;
-    let mut cursor = walk::first_link(file, b);
+    let mut cursor = Cursor::start(file, 15, 8, b - 1);
     while 0 < n {
         let m = cursor.at;
         if m == 0 {
@@ -55,7 +58,7 @@ pub fn by_type(file: &[u8], b: usize) -> [Row; 8]
             let x = h[t];
             h[t] = row::with(x, field::link_byte(file, m, 2));
         }
-        let next = walk::next_link(cursor, file);
+        let next = cursor.moved(file, from, 4);
         cursor = next;
         n -= 1;
     }

@@ -1,25 +1,35 @@
-// The events of a file thread by thread: all of them in one line.
+// The events of a file thread by thread: how many each has, and all of them in one line.
 
-ghost use Rattle.std.specs.Prelude.{◌≡◌, true, ◌+◌, ◌<◌};
+ghost use Rattle.std.specs.Prelude.{◌≡◌, true, ◌+◌, ◌<◌, length};
 ghost use Rattle.layout.specs.Layout.{threads, Sized};
-ghost use Rattle.layout.specs.Chains.{threads_sound};
+ghost use Rattle.layout.specs.Chains.{thread, threads_sound};
 ghost use Rattle.reading.specs.Sets.{Line};
 
-use layout::walk;
+use layout::chain::Cursor;
+use layout::{chain, field};
 use relation::Sequence;
+
+// How many events thread t has, from 0.
+pub fn length_of(file: &[u8], t: usize) -> usize
+    requires { Sized file.now × (t < threads) }
+    ensures { result ≡ length (thread file.now t) }
+{
+    let n = field::events(file);
+    chain::count(file, 8, 8, n, Cursor::start(file, 4, 1, t))
+}
 
 // The line of the first t threads with the events of thread t behind it.
 pub fn along(file: &[u8], t: usize, line: Sequence) -> Sequence
     requires { Sized file.now × (threads_sound file.now ≡ true) × (t < threads) × Line file.now t line.len line.at }
     ensures { Line file.now (t + 1) result.len result.at }
 {
-    let mut cursor = walk::head(file, t);
+    let mut cursor = Cursor::start(file, 4, 1, t);
     let mut at = line.at;
     let mut len = line.len;
     while cursor.at != 0 {
         at[len] = cursor.at as u8;
         len += 1;
-        let next = walk::next_event(cursor, file);
+        let next = cursor.moved(file, 8, 8);
         cursor = next;
     }
     Sequence { at, len }
@@ -35,7 +45,7 @@ pub fn line(file: &[u8]) -> Sequence
         len: 0,
     };
     let mut t: usize = 0;
-    while t < 8 {
+    while t < 4 {
         let more = along(file, t, r);
         r = more;
         t += 1;

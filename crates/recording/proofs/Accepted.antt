@@ -129,3 +129,16 @@ source_limits f s =
 
 pub source_thread : (f : List ℕ) → LoadsAs source f → (t : ℕ) → t < threads → length (thread f t) ≤ most_in_thread source
 source_thread f s t h = rw s.side_is at (thread_length f s.loads t h)
+
+-- The kinds of the sides: a file that loads as source has kind 1, and one that loads as chip has kind 2.
+pub source_kind : (f : List ℕ) → LoadsAs source f → kind f ≡ 1
+unfolding side_of
+source_kind f s = eqb-true (kind f) 1 s.side_is
+
+pub chip_kind : (f : List ℕ) → LoadsAs chip f → kind f ≡ 2
+unfolding side_of kind_known
+chip_kind f s =
+    elim (or_either (eqb (kind f) 1) (eqb (kind f) 2) (known f s.loads)) [
+      | inl e ↦ absurd (false≢true (sym s.side_is ∙ e))
+      | inr e ↦ eqb-true (kind f) 2 e
+    ]

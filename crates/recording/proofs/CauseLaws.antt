@@ -16,8 +16,8 @@ use Rattle.models.specs.Recording.{Recording, event, of_class, flagged}
 use Rattle.models.specs.Graph.{base}
 use Rattle.models.specs.Rules.{first}
 use Rattle.models.proofs.FirstLaws.{positive, first_stops, first_goes_on, first_front}
-use Rattle.layout.specs.Layout.{Side, kind, side, events, locations, links, link_byte, most_events, most_links, most_in_thread, full_length, Sized}
-use Rattle.layout.specs.Chains.{fresh, once_each, thread, next_link, first_link, links_into, threads_sound, links_sound, all_of}
+use Rattle.layout.specs.Layout.{Side, side, events, locations, links, link_byte, most_events, most_links, most_in_thread, full_length, Sized}
+use Rattle.layout.specs.Chains.{met, fresh, once_each, next_of, start_of, thread, next_link, first_link, links_into, links_sound, all_of}
 use Rattle.layout.specs.Decode.{decode}
 use Rattle.reading.specs.Readable.{within, readable, Chained, Readable}
 use Rattle.recording.specs.Causes.{rf_legal, co_legal, rmw_legal, from_read, data_legal, addr_legal, ctrl_legal, casdep_legal, link_legal, link_sound, one_source, links_sound_at, paired_at, too_long, header_over, over_limit, bad_threads, bad_chains, bad_link, header_causes, record_causes, link_causes, causes, refusal}
@@ -27,7 +27,6 @@ use Rattle.recording.specs.declared.Load.{Load}
 use Rattle.recording.specs.declared.Load.TheVariants.{Refused, Loaded}
 use Rattle.relation.proofs.Truth.{is_false, same_test, and_left, and_right, and_both, or_none}
 use Rattle.layout.proofs.FieldLaws.{event_small, class_event, most_events_48}
-use Rattle.layout.proofs.PlaceLaws.{start_least}
 use Rattle.layout.proofs.ChainLaws.{each_at}
 use Rattle.layout.proofs.ChainFacts.{fresh_cons, chain_fresh}
 
@@ -194,7 +193,7 @@ limits f e =
 pub sized_of : (f : List ℕ) → over_limit f ≡ false → length f ≡ full_length f → Sized f
 sized_of f e long =
     let w = limits f e in
-    record { long = long; least = omega (arith, start_least (kind f) (events f)); most_events_lem = omega (arith, w.0, most_events_48 (side f)); most_locations_lem = w.1 }
+    record { long = long; most_events_lem = omega (arith, w.0, most_events_48 (side f)); most_locations_lem = w.1 }
 
 -- A test of the numbers below n, one number more.
 pub some_more : (n : ℕ) (s : Set) → some (below n) s ≡ false → s n ≡ false → some (below (n + 1)) s ≡ false
@@ -202,17 +201,18 @@ unfolding some below
 some_more n s a b = ap (λ (k : ℕ). some (below k) s) (add-one n) ∙ ap₂ ◌||◌ b a
 
 -- Causes 6, 13 and 7, with what is read from the file.
-pub threads_are : (f : List ℕ) (b : Bool) → b ≡ threads_sound f → not b ≡ bad_threads f
+pub threads_are : (f : List ℕ) (n : ℕ) (b : Bool) → n ≡ events f → b ≡ once_each n (met n (next_of f 8 8) (start_of f 4 1) 4) → not b ≡ bad_threads f
 unfolding bad_threads
-threads_are f b p = ap not p
+threads_are f n b e p = ap not (p ∙ ap (λ (k : ℕ). once_each k (met k (next_of f 8 8) (start_of f 4 1) 4)) e)
 
 pub long_is : (f : List ℕ) (t k m : ℕ) (s : Side) → s ≡ side f → m ≡ most_in_thread s → k ≡ length (thread f t) → ltb m k ≡ too_long f t
 unfolding too_long
 long_is f t k m s q l p = ap₂ ltb (l ∙ ap most_in_thread q) p
 
-pub chains_are : (f : List ℕ) (b : Bool) → b ≡ links_sound f → not b ≡ bad_chains f
+pub chains_are : (f : List ℕ) (n m : ℕ) (b : Bool) → n ≡ events f → m ≡ links f
+    → b ≡ once_each m (met m (next_of f (8 + 8 * n) 4) (start_of f 15 8) n) → not b ≡ bad_chains f
 unfolding bad_chains
-chains_are f b p = ap not p
+chains_are f n m b e q p = ap not (p ∙ ap₂ (λ (k l : ℕ). once_each l (met l (next_of f (8 + 8 * k) 4) (start_of f 15 8) k)) e q)
 
 -- The header, read number by number, and what it says of the file.
 pub header_is : (f : List ℕ) (b : Bool) → b ≡ side f → record { source = b; events = events f; locations = locations f; links = links f } ≡ header_of f
@@ -255,7 +255,7 @@ module _ (f : List ℕ) where
     refused_links records = sym (first_goes_on (record_causes f) _ refl records) ∙ to_records
 
 pub sized_8 : (f : List ℕ) → Sized f → 8 ≤ length f
-sized_8 f s = s.least
+sized_8 f s = omega (arith, s.long)
 
 -- What an answer says of the file.
 answer_loaded : (n : ℕ) (h k : Header) → answer n h ≡ Loaded k → (n ≡ 0) × (k ≡ h)

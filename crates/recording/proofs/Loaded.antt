@@ -16,7 +16,7 @@ use Rattle.models.specs.Recording.{event, of_class, flagged, access, co_step}
 use Rattle.models.specs.Graph.{graph, base, Within}
 use Rattle.models.specs.Loads.{Loads}
 use Rattle.models.proofs.Tests.{plus_one, plus_join, plus_steps}
-use Rattle.layout.specs.Layout.{Side, side, events, threads}
+use Rattle.layout.specs.Layout.{Side, side, events}
 use Rattle.layout.specs.Chains.{among, fresh, once_each, next_event, head, links_into, all_of, thread, threads_up_to}
 use Rattle.layout.specs.Decode.{is_recorded, is_initial, decode, field_or}
 use Rattle.reading.specs.Sets.{Located}
@@ -99,19 +99,19 @@ four a b c d p =
 
 -- Threads: every record is on a chain that ends.
 module _ (f : List ℕ) (a : refusal f ≡ 0) where
-  sound : fresh (events f) [] (threads_up_to f threads) ≡ true
+  sound : fresh (events f) [] (threads_up_to f 4) ≡ true
   unfolding once_each
   sound = and_left _ _ (threads_sound_lem f a)
 
-  on_chain : (e : ℕ) → is_recorded f e ≡ true → (j : ℕ) × (j < threads) × (among e (thread f j) ≡ true)
+  on_chain : (e : ℕ) → is_recorded f e ≡ true → (j : ℕ) × (j < 4) × (among e (thread f j) ≡ true)
   unfolding once_each
   on_chain e p =
       let (h, g) = recorded_bounds f e p in
-      met_cases (events f) (next_event f) (head f) threads e
-      (each_at (events f) (λ x. among x (threads_up_to f threads)) (and_right (fresh (events f) [] _) _ (threads_sound_lem f a)) e h g)
+      met_cases (events f) (next_event f) (head f) 4 e
+      (each_at (events f) (λ x. among x (threads_up_to f 4)) (and_right (fresh (events f) [] _) _ (threads_sound_lem f a)) e h g)
 
-  chain_of : (j : ℕ) → j < threads → Ended (events f) (next_event f) (head f j) (thread f j)
-  chain_of j h = chain_ended (events f) (next_event f) (head f) threads j h sound
+  chain_of : (j : ℕ) → j < 4 → Ended (events f) (next_event f) (head f j) (thread f j)
+  chain_of j h = chain_ended (events f) (next_event f) (head f) 4 j h sound
 
   -- the chain from a record on
   own_chain : (e : ℕ) → is_recorded f e ≡ true → (k : List ℕ) × Ended (events f) (next_event f) e k
@@ -159,7 +159,7 @@ module _ (f : List ℕ) (a : refusal f ≡ 0) where
       let (h, g) = recorded_bounds f z (next_to x z p) in
       let zi = next_among (events f) (next_event f) x z (chain_of i hi) mi (follows x z p) h in
       let zj = next_among (events f) (next_event f) y z (chain_of j hj) mj (follows y z q) h in
-      let same = one_chain (events f) (next_event f) (head f) threads i j z hi hj sound zi zj in
+      let same = one_chain (events f) (next_event f) (head f) 4 i j z hi hj sound zi zj in
       let (k, w) = own_chain x (next_from x z p) in
       let (l, v) = own_chain y (next_from y z q) in
       let (m, u) = own_chain z (next_to x z p) in

@@ -14,7 +14,6 @@ use Rattle.models.specs.Rules.{first}
 use Rattle.layout.specs.Layout.{kind, side_of, side, events, locations, links, kind_known, full_length}
 use Rattle.recording.specs.Causes.{header_over, too_short, kind_unknown, over_limit, wrong_length, header_causes, record_causes, link_causes, causes, refusal}
 use Rattle.layout.proofs.FieldLaws.{most_events_48, most_links_255}
-use Rattle.layout.proofs.PlaceLaws.{start_most}
 use Rattle.recording.specs.Input.{longest, ReadOf}
 use Rattle.recording.proofs.CauseLaws.{limits}
 
@@ -28,7 +27,7 @@ unfolding wrong_length
 too_long_lem f h p =
     let w = limits f p in
     ap not
-    (ne_eqb (length f) (full_length f) (λ e. omega (arith, w.2, most_links_255 (side f), start_most (kind f) (events f) (omega (arith, w.0, most_events_48 (side f))))))
+    (ne_eqb (length f) (full_length f) (λ e. omega (arith, w.0, w.2, most_events_48 (side f), most_links_255 (side f))))
 
 -- What such a file gets depends on its first four bytes alone.
 pub refusal_overlong : (f : List ℕ) → longest < length f → refusal f ≡ overlong (kind f) (events f) (locations f) (links f)

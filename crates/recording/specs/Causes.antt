@@ -5,7 +5,7 @@ use Rattle.relation.specs.Rel.{some, inverse, diagonal, below, nodes}
 use Rattle.models.specs.Recording.{Recording, read, write, access, exclusive_read, strong_write}
 use Rattle.models.specs.Graph.{base}
 use Rattle.models.specs.Rules.{Numbered, first}
-use Rattle.layout.specs.Layout.{Side, kind, side, events, locations, links, threads, kind_known, most_events, most_locations, most_links, most_in_thread, full_length, link_byte}
+use Rattle.layout.specs.Layout.{Side, kind, side, events, locations, links, threads, kind_known, most_events, most_locations, most_links, most_in_thread, header_size, full_length, link_byte}
 use Rattle.layout.specs.Chains.{each, all_of, thread, threads_sound, links_sound, links_into}
 use Rattle.layout.specs.Decode.{decode}
 
@@ -112,7 +112,7 @@ paired_at f e = not (strong_write (decode f) e) || some nodes (inverse ((decode 
 module _ (f : List ℕ) where
   -- 1 under 8 bytes
   unfoldable pub too_short : Bool
-  too_short = ltb (length f) 8
+  too_short = ltb (length f) header_size
 
   -- 2 kind not 1 or 2
   unfoldable pub kind_unknown : Bool

@@ -13,8 +13,8 @@ ghost use Rattle.recording.specs.Causes.{too_long, links_sound_at, paired_at, he
 ghost use Rattle.recording.specs.Load.{header_of, load_of, number_of, cause_for};
 
 use crate::{Header, Load, legal, links};
-use layout::{field, kind, walk};
-use reading::graph;
+use layout::{chain, field, kind};
+use reading::{graph, thread};
 use relation::grid::Grid;
 use relation::{grid, row};
 
@@ -75,7 +75,8 @@ pub fn threads_sound(file: &[u8]) -> bool
     requires { Sized file.now }
     ensures { not result ≡ bad_threads file.now }
 {
-    walk::threads_once(file)
+    let n = field::events(file);
+    chain::once_each(file, 4, 1, 4, 8, 8, n)
 }
 
 // Whether thread t, from 0, has more events than a file of this side may have.
@@ -84,7 +85,7 @@ pub fn too_long(file: &[u8], t: usize) -> bool
     ensures { result ≡ too_long file.now t }
 {
     let most = kind::most_in_thread(field::side(file));
-    most < walk::thread_length(file, t)
+    most < thread::length_of(file, t)
 }
 
 // Whether some thread has.
@@ -93,7 +94,7 @@ pub fn long_thread(file: &[u8]) -> bool
     ensures { result ≡ long_thread file.now }
 {
     let mut t: usize = 0;
-    while t < 8 {
+    while t < 4 {
         if too_long(file, t) {
             return true;
         }
@@ -108,7 +109,9 @@ pub fn chains_sound(file: &[u8]) -> bool
     requires { Sized file.now }
     ensures { not result ≡ bad_chains file.now }
 {
-    walk::links_once(file)
+    let n = field::events(file);
+    let m = field::links(file);
+    chain::once_each(file, 15, 8, n, 8 + 8 * n, 4, m)
 }
 
 // The first of the causes of the records and their chains, 5, 6, 13 and 7, that applies, or 0.
@@ -179,7 +182,7 @@ pub fn header_refusal(file: &[u8]) -> u8
     if over_limit(kind::side_of(kind), n, l, m) {
         return 3;
     }
-    if file.len() != kind::link_start_of(kind, n) + 4 * m {
+    if file.len() != 8 + 8 * n + 4 * m {
         return 4;
     }
     0

@@ -11,7 +11,8 @@ ghost use Rattle.reading.specs.Readable.{Chained};
 ghost use Rattle.recording.specs.Causes.{one_source, links_sound_at};
 
 use crate::legal;
-use layout::{field, walk};
+use layout::chain::Cursor;
+use layout::field;
 use relation::grid::Grid;
 use relation::row;
 use relation::row::Row;
@@ -32,9 +33,10 @@ pub fn sound_into(file: &[u8], po: Grid, b: usize) -> bool
     requires { Chained file.now × (edge po ≡ (base nodes (decode file.now)).po) × (1 ≤ b) × (b ≤ events file.now) }
     ensures { result ≡ links_sound_at file.now b }
 {
+    let from = 8 + 8 * field::events(file);
     let mut rf = row::none();
     let mut n = field::links(file) + 1;
-    let mut cursor = walk::first_link(file, b);
+    let mut cursor = Cursor::start(file, 15, 8, b - 1);
     while 0 < n {
         let m = cursor.at;
         if m == 0 {
@@ -50,7 +52,7 @@ pub fn sound_into(file: &[u8], po: Grid, b: usize) -> bool
         if field::link_byte(file, m, 1) == 1 {
             rf = more;
         }
-        let next = walk::next_link(cursor, file);
+        let next = cursor.moved(file, from, 4);
         cursor = next;
         n -= 1;
     }

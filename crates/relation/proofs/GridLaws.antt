@@ -184,26 +184,21 @@ pub edge_empty : edge (replicate 64 (replicate 8 0)) ≡ none
 unfolding none edge
 edge_empty = fun_ext (bit_replicate 64 (replicate 8 0) bit_none)
 
--- One row gains a set of events, or one event.
-pub edge_gains : (g : List (List ℕ)) (i : ℕ) (s : Set) (v : List ℕ) → length g ≡ 64 → i < 64 → bit v ≡ union (bit (get_or g i [])) s
-    → edge (set g i v) ≡ either (edge g) (product (single i) s)
-unfolding edge either product union single
-edge_gains g i s v l h p =
+-- One row gains one event.
+pub edge_with : (g : List (List ℕ)) (i j : ℕ) (v : List ℕ) → length g ≡ 64 → i < 64 → bit v ≡ union (bit (get_or g i [])) (single j)
+    → edge (set g i v) ≡ either (edge g) (pair i j)
+unfolding edge either pair union single
+edge_with g i j v l h p =
     fun_ext
     (λ m. elim (ℕ_discrete m i) [
       | yes e ↦ ap bit (rw e (get_or-set_same g i v [] (omega arith))) ∙ p
           ∙ fun_ext
-          (λ k. ap₂ ◌||◌ (ap (λ (x : ℕ). bit (get_or g x []) k) (sym e)) (ap (λ (b : Bool). b && s k) (sym (eq-eqb i m (sym e)))))
+          (λ k. ap₂ ◌||◌ (ap (λ (x : ℕ). bit (get_or g x []) k) (sym e)) (ap (λ (b : Bool). b && eqb j k) (sym (eq-eqb i m (sym e)))))
       | no d ↦ ap bit (get_or-set_other g i m v [] d)
           ∙ fun_ext
           (λ k. sym (or-false _)
-          ∙ ap (λ (b : Bool). bit (get_or g m []) k || (b && s k)) (sym (ne_eqb i m (λ q. d (sym q)))))
+          ∙ ap (λ (b : Bool). bit (get_or g m []) k || (b && eqb j k)) (sym (ne_eqb i m (λ q. d (sym q)))))
     ])
-
-pub edge_with : (g : List (List ℕ)) (i j : ℕ) (v : List ℕ) → length g ≡ 64 → i < 64 → bit v ≡ union (bit (get_or g i [])) (single j)
-    → edge (set g i v) ≡ either (edge g) (pair i j)
-unfolding product single pair
-edge_with g i j v = edge_gains g i (single j) v
 
 -- One round of the closure, row by row: a row gains y, row k, where k is in it.
 pub through_row : (k : ℕ) (y : Set) {x s : Set} (t : Bool) → t ≡ x k → x ≡ s → union x (given t y) ≡ union s (given (s k) y)

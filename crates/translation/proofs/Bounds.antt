@@ -13,9 +13,9 @@ use Rattle.models.specs.Recording.{flagged}
 use Rattle.layout.specs.Layout.{events, links, link_byte}
 use Rattle.layout.specs.Chains.{next_event, next_link, first_link, links_into, met, fresh, once_each, among}
 use Rattle.layout.specs.Decode.{decode}
-use Rattle.encoding.specs.Contents.{contents}
+use Rattle.translation.specs.Contents.{contents}
 use Rattle.translation.specs.Translate.{exclusive, strong, new_events, after, controlled, translated}
-use Rattle.encoding.specs.Encode.{is_link, links_up_to}
+use Rattle.translation.specs.Encode.{is_link, links_up_to}
 use Rattle.translation.specs.Translation.{chip}
 use Rattle.translation.specs.Parts.{Source}
 use Rattle.relation.proofs.Truth.{is_true, holds, and_left, and_right}
@@ -23,7 +23,7 @@ use Rattle.recording.proofs.Accepted.{links_sound_lem}
 use Rattle.layout.proofs.ChainFacts.{among_here, among_there, fresh_within, follow_positive, met_at, one_chain}
 use Rattle.relation.proofs.Counting.{count_inject, count_double}
 use Rattle.translation.proofs.TranslateLaws.{Flagged, flagged_is, Linked, stays, exclusively, casdep, new_is}
-use Rattle.encoding.proofs.EncodedLinks.{LinksFit}
+use Rattle.translation.proofs.EncodedLinks.{LinksFit}
 use Rattle.translation.proofs.SourceFacts.{limits, loads, says, link_source, link_target, flagged_decoded}
 
 pub mem_among : (x : ℕ) (l : List ℕ) → Memᴰ x l → among x l ≡ true
@@ -34,7 +34,7 @@ mem_among x (y ∷ l) (Memᴰ.tail m) = among_there x y l (mem_among x l m)
 from_digits : (k : ℕ) → k ≡ 512 * (k / 512) + 64 * (k / 64 % 8) + k % 64
 from_digits k = omega arith
 
-pub same_digits : (j k : ℕ) → j / 512 ≡ k / 512 → j / 64 % 8 ≡ k / 64 % 8 → j % 64 ≡ k % 64 → j ≡ k
+same_digits : (j k : ℕ) → j / 512 ≡ k / 512 → j / 64 % 8 ≡ k / 64 % 8 → j % 64 ≡ k % 64 → j ≡ k
 same_digits j k p q r = cc (from_digits j, from_digits k)
 
 module _ (f : List ℕ) (s : Source f) where
@@ -117,7 +117,7 @@ module _ (f : List ℕ) (s : Source f) where
       }
 
   -- A record stands on the chain of one event.
-  pub one_target : (m b d : ℕ) → (1 ≤ b) × (b ≤ events f) → (1 ≤ d) × (d ≤ events f) → among m (links_into f b) ≡ true → among m (links_into f d) ≡ true → b ≡ d
+  one_target : (m b d : ℕ) → (1 ≤ b) × (b ≤ events f) → (1 ≤ d) × (d ≤ events f) → among m (links_into f b) ≡ true → among m (links_into f d) ≡ true → b ≡ d
   one_target m b d h g p q =
       let e = one_chain (links f) (next_link f) (first_link f) (events f) (b - 1) (d - 1) m (omega (arith, h)) (omega (arith, g)) links_fresh p q in
       omega (arith, h, g)
@@ -160,7 +160,7 @@ module _ (f : List ℕ) (s : Source f) where
         from_record t e (rw m r.chained) (link_target f s t (k % 64) e l) (omega (arith, r.low, r.high)) (rw m r.type) (rw m r.source) goes,
       )
 
-  origin : (k : ℕ) → is_link (chip f).link k ≡ true → (x : ℕ) × (x < 232) × Origin k x
+  origin : (k : ℕ) → is_link (chip f) k ≡ true → (x : ℕ) × (x < 232) × Origin k x
   unfolding is_link translated contents
   origin k h = go (new_is (contents f) (k / 64 % 8) (k % 64) (k / 512) h).from
     where
@@ -189,5 +189,5 @@ module _ (f : List ℕ) (s : Source f) where
   origin_once j k x (from_record _ _ _ _ g _ _ _) (read p _ _ _) = absurd (omega arith)
   origin_once j k x (read p _ _ _) (from_record _ _ _ _ g _ _ _) = absurd (omega arith)
 
-  pub most_links_lem : (e : ℕ) → links_up_to (chip f).link e ≤ 232
-  most_links_lem e = count_inject (512 * suc e) 232 (is_link (chip f).link) Origin (λ k h g. origin k g) origin_once
+  pub most_links_lem : (e : ℕ) → links_up_to (chip f) e ≤ 232
+  most_links_lem e = count_inject (512 * suc e) 232 (is_link (chip f)) Origin (λ k h g. origin k g) origin_once

@@ -15,7 +15,7 @@ use Rattle.layout.specs.Layout.{events, event_byte}
 use Rattle.layout.specs.Decode.{decode}
 use Rattle.layout.proofs.FieldLaws.{and_yes, and_no}
 use Rattle.layout.proofs.FieldLaws.{next_first}
-use Rattle.encoding.specs.Contents.{contents}
+use Rattle.translation.specs.Contents.{contents}
 use Rattle.translation.specs.Translate.{strong, inserted, new_events, fenced, after, kept_or, new_mode, new_flag}
 use Rattle.translation.specs.Parts.{Source, NewEvent}
 use Rattle.translation.proofs.TranslateLaws as law

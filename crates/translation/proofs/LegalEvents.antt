@@ -2,20 +2,30 @@
 -- recording.
 use mathlib.Core.Path.{◌≡◌, refl, sym, ap, ◌∙◌}
 use mathlib.Core.Bool.{Bool, true, ◌&&◌, ◌||◌, false≢true}
+use mathlib.Core.List.{List}
 use mathlib.Core.Logic.{◌⊎◌, inl, inr}
-use Prim.Native.Nat.{ℕ, zero, suc, ◌<◌, ◌≤◌}
+use Prim.Native.Nat.{ℕ, zero, suc, ◌+◌, ◌*◌, ◌<◌, ◌≤◌}
 use native.Mathlib.Omega.{arith}
 use native.Mathlib.Decide.{ℕ_discrete, dec_le}
 use borrow.Author.Tests.{leb-true, eqb-true}
 use lib.Dec.{eqb, ltb}
-use Rattle.layout.specs.Layout.{Side, source, chip}
-use Rattle.recording.specs.Causes.{write_legal, fence_mode, fence_legal, legal}
-use Rattle.encoding.specs.Contents.{Contents}
+use Rattle.layout.specs.Layout.{Side, source, chip, side, locations}
+use Rattle.layout.specs.Decode.{decode}
+use Rattle.recording.specs.Causes.{write_legal, fence_mode, fence_legal, legal, event_legal}
+use Rattle.translation.specs.Contents.{Contents}
 use Rattle.translation.specs.Translate.{strong, new_mode, new_flag, translated}
 use Rattle.relation.proofs.Truth.{is_false, and_left, and_right, and_both, or_either}
 use Rattle.translation.proofs.TranslateLaws as law
 use Rattle.translation.proofs.TranslateLaws.{flagged_is}
-use Rattle.encoded.proofs.LegalAt.{legal_at}
+use Rattle.translation.proofs.Says.{Says}
+
+-- What the table asks of event e, said of contents.
+unfoldable pub legal_at : Side → ℕ → Contents → ℕ → Bool
+legal_at r L c e = legal r L (c.class e) (c.mode e) (c.flag e) (c.location e) (c.low e + 256 * c.high e)
+
+pub legal_says : (f : List ℕ) (c : Contents) → Says (decode f) c → (e : ℕ) → 1 ≤ e → e ≤ c.events → event_legal f e ≡ legal_at (side f) (locations f) c e
+unfolding event_legal legal_at
+legal_says f c q e h g = rw (q.class e h g, q.mode e h g, q.flag e h g, q.location e h g, q.value e h g)
 
 module _ (L class mode flag location value : ℕ) where
   legal_write : legal source L 2 mode flag location value ≡ true → ((eqb mode 0 || eqb mode 2) && ltb location L ≡ true) × ((flag ≡ 0) ⊎ (flag ≡ 1))
@@ -73,7 +83,7 @@ translated_fence s e c =
 -- An event of the source, and its translation.
 module _ (L : ℕ) (s : Contents) (e : ℕ) (ok : legal_at source L s e ≡ true) where
   abbrev value : ℕ
-  value = s.low e
+  value = s.low e + 256 * s.high e
 
   of_class_lem : (k : ℕ) → s.class e ≡ k → legal source L k (s.mode e) (s.flag e) (s.location e) value ≡ true
   unfolding legal_at
@@ -113,8 +123,8 @@ pub legal_new : (L : ℕ) (s : Contents) → ((e : ℕ) → 1 ≤ e → e ≤ s.
 unfolding legal_at translated legal fence_legal fence_mode
 legal_new L s ok e h =
     elim (dec_le e s.events) [
-      | yes g ↦ rw (law.kept s s.class 3 e g, law.kept s (new_mode s) 5 e g, law.kept s (new_flag s) 0 e g, law.kept s s.location 0 e g, law.kept s s.low 0 e g)
+      | yes g ↦ rw (law.kept s s.class 3 e g, law.kept s (new_mode s) 5 e g, law.kept s (new_flag s) 0 e g, law.kept s s.location 0 e g, law.kept s s.low 0 e g, law.kept s s.high 0 e g)
           (translated_legal L s e (ok e h g) h g)
       | no n ↦ (let g : s.events < e = omega (arith, n) in
-          rw (law.made s s.class 3 e g, law.made s (new_mode s) 5 e g, law.made s (new_flag s) 0 e g, law.made s s.location 0 e g, law.made s s.low 0 e g) refl)
+          rw (law.made s s.class 3 e g, law.made s (new_mode s) 5 e g, law.made s (new_flag s) 0 e g, law.made s s.location 0 e g, law.made s s.low 0 e g, law.made s s.high 0 e g) refl)
     ]

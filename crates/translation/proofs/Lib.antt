@@ -1,14 +1,20 @@
 -- Laws that the proofs of `translation` share, and its theorems.
+pub mod RecordLaws
+pub mod EncodeLaws
+pub mod Runs
+pub mod EncodedLinks
+pub mod Woven
 pub mod TranslateLaws
-pub mod Flags
+pub mod Says
 pub mod SourceFacts
 pub mod Bounds
 pub mod Relates
 pub mod LegalEvents
+pub mod LegalLinks
 pub mod Threads
 pub mod TranslationLoads
 pub mod EventLaws
 pub mod LinkRows
+pub mod WriteLaws
 pub mod Theorems
-pub mod Held
 pub mod TranslationCall

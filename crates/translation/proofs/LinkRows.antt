@@ -1,15 +1,16 @@
--- Laws of the functions over links: the rows of their sources.
-use mathlib.Core.Path.{◌≡◌, refl, sym, ap, ap₂, ◌∙◌, fun_ext}
+-- Laws of the functions over links: the rows of their sources, and how many there are.
+use mathlib.Core.Path.{◌≡◌, refl, sym, ap, ap₂, subst, ◌∙◌, fun_ext}
 use mathlib.Core.Bool.{Bool, true, false, ◌&&◌, ◌||◌, or-false, and-false}
 use mathlib.Core.List.{List, []}
-use Prim.Native.Nat.{ℕ, ◌<◌, ◌≤◌}
+use Prim.Native.Nat.{ℕ, zero, suc, ◌+◌, ◌*◌, ◌<◌, ◌≤◌}
+use native.Mathlib.Numerals.{add-one}
 use native.Mathlib.Omega.{arith}
 use native.Mathlib.Decide.{ℕ_discrete}
 use borrow.Author.Tests.{le-leb, ne_eqb}
 use lib.Dec.{eqb, leb}
-use lib.ListN.{length, get_or, set, length-set}
+use lib.ListN.{length, get_or, set, replicate, length-set}
 use lib.Seq.{get_or-set_same, get_or-set_other}
-use Rattle.relation.specs.Rel.{Set, Rel, empty, single, union, intersection, either, inverse, some, image, compose, nodes}
+use Rattle.relation.specs.Rel.{Set, Rel, empty, single, union, intersection, either, inverse, some, image, compose, count, nodes}
 use Rattle.relation.specs.Bits.{bit}
 use Rattle.models.specs.Recording as recording
 use Rattle.layout.specs.Layout.{events, event_byte}
@@ -19,12 +20,17 @@ use Rattle.reading.specs.Readable.{Readable}
 use Rattle.relation.proofs.Truth.{is_false, same_test, and_left, and_right, and_both}
 use Rattle.layout.proofs.FieldLaws.{recorded_bounds, next_first}
 use Rattle.recording.proofs.Loaded.{loaded_readable}
-use Rattle.encoding.specs.Contents.{contents}
-use Rattle.translation.specs.Translate.{flagged, new_events, after, follows, controlled, from_exclusive, from_casdep, new_link}
-use Rattle.translation.specs.Parts.{Source, NewEvent, RowsInto, targets, ctrl_into}
+use Rattle.translation.specs.Contents.{Contents, contents}
+use Rattle.translation.specs.Translate.{flagged, new_events, after, follows, controlled, from_exclusive, from_casdep, new_link, translated}
+use Rattle.translation.specs.Encode.{is_link, links_before, links_up_to}
+use Rattle.translation.specs.Translation.{chip}
+use Rattle.translation.specs.Parts.{Source, NewEvent, RowsInto, Ends, targets, ctrl_into}
+use Rattle.relation.proofs.Counting.{count_add, count_same, count_mono}
 use Rattle.translation.proofs.TranslateLaws as law
 use Rattle.translation.proofs.TranslateLaws.{flagged_is}
+use Rattle.translation.proofs.EncodedLinks.{link_number, none_into_zero}
 use Rattle.translation.proofs.SourceFacts.{limits, link_target, flagged_decoded}
+use Rattle.translation.proofs.Bounds.{links_fit, most_links_lem}
 
 -- Whether an exclusive read r has both rmw and data to the event w directly after it.
 pub record Pair (f : List ℕ) (r w : ℕ) (both : Bool) : Type 0 where
@@ -137,3 +143,88 @@ module _ (f : List ℕ) (s : Source f) where
         | yes p ↦ rw p (ap bit (get_or-set_same l i v [] h) ∙ e)
         | no d ↦ ap bit (get_or-set_other l i t v [] d) ∙ other d
       ]
+
+-- The links before a type's row, and those of the row.
+pub count_row : (s : Contents) (b t : ℕ) (row : Set) → t < 8 → row ≡ inverse (new_link s t) b
+    → links_before (translated s) (512 * b + 64 * (t + 1)) ≡ links_before (translated s) (512 * b + 64 * t) + count 64 row
+unfolding translated inverse
+count_row s b t row h e =
+    let k = 512 * b + 64 * t in
+    let place : 512 * b + 64 * (t + 1) ≡ k + 64 = omega arith in
+    ap (λ (x : ℕ). links_before (translated s) x) place ∙ count_add k 64 (is_link (translated s))
+    ∙ ap (λ (x : ℕ). links_before (translated s) k + x)
+    (count_same 64 (λ a. is_link (translated s) (k + a)) row (λ a g. link_number (translated s) t a b h g ∙ sym (ap (λ (r : Set). r a) e)))
+
+-- The links into smaller events and, of those into b, of types below t, are counted.
+pub record LinksCounted (f : List ℕ) (b t m : ℕ) : Type 0 where
+  pub source : Source f
+  pub same : m ≡ links_before (chip f) (512 * b + 64 * t)
+
+module _ (f : List ℕ) (b : ℕ) where
+  pub links_start : Source f → (n : ℕ) → n ≡ links_before (chip f) (512 * b) → LinksCounted f b 0 n
+  links_start r n p =
+      let place : 512 * b ≡ 512 * b + 64 * 0 = omega arith in
+      record { source = r; same = p ∙ ap (λ (x : ℕ). links_before (chip f) x) place }
+
+  pub links_more : (t m x : ℕ) (row : Set) → LinksCounted f b t m → t < 8 → row ≡ inverse (new_link (contents f) t) b → x ≡ count 64 row → LinksCounted f b (t + 1) (m + x)
+  links_more t m x row w h e p =
+      record { source = w.source; same = ap₂ ◌+◌ w.same p ∙ sym (count_row (contents f) b t row h e) }
+
+  -- They are few.
+  pub links_few : (t m : ℕ) → LinksCounted f b t m → t ≤ 8 → m ≤ 232
+  links_few t m w h =
+      omega (arith, w.same, count_mono (512 * b + 64 * t) (512 * suc b) (is_link (chip f)) (omega arith), most_links_lem f w.source b)
+
+  pub links_all : (t m : ℕ) → LinksCounted f b t m → t ≡ 8 → (m ≡ links_up_to (chip f) b) × (m ≤ 232)
+  links_all t m w e =
+      let place : 512 * b + 64 * t ≡ 512 * suc b = omega arith in
+      (w.same ∙ ap (λ (x : ℕ). links_before (chip f) x) place, links_few t m w (omega arith))
+
+-- The links into events below b are counted.
+pub record EventsCounted (f : List ℕ) (n b m : ℕ) : Type 0 where
+  pub source : Source f
+  pub events : n ≡ new_events (contents f)
+  pub low : 1 ≤ b
+  pub same : m ≡ links_before (chip f) (512 * b)
+
+module _ (f : List ℕ) (n : ℕ) where
+  pub events_start : Source f → n ≡ new_events (contents f) → EventsCounted f n 1 0
+  events_start r e = record { source = r; events = e; low = omega arith; same = sym (none_into_zero (chip f) (links_fit f r)) }
+
+  pub event_counted : (b m : ℕ) → EventsCounted f n b m → b ≤ n → NewEvent (contents f) b
+  event_counted b m w h = record { low = w.low; high = omega (arith, w.events) }
+
+  pub events_more : (b m x : ℕ) → EventsCounted f n b m → x ≡ links_up_to (chip f) b → EventsCounted f n (suc b) x
+  events_more b m x w e = record { source = w.source; events = w.events; low = omega arith; same = e }
+
+  -- The counts that stand in the array.
+  pub record Ending (b m : ℕ) (at : List ℕ) : Type 0 where
+    pub counted : EventsCounted f n b m
+    pub long : length at ≡ 64
+    pub upto : (k : ℕ) → k < b → get_or at k 0 ≡ links_up_to (chip f) k
+
+  pub ending_start : Source f → n ≡ new_events (contents f) → Ending 1 0 (replicate 64 0)
+  ending_start r e =
+      let c = events_start r e in
+      record { counted = c; long = refl; upto = λ k h. first k h c.same }
+    where
+      first : (k : ℕ) → k < 1 → 0 ≡ links_before (chip f) (512 * 1) → get_or {A = ℕ} (replicate 64 0) k 0 ≡ links_up_to (chip f) k
+      first zero h p = p
+      first (suc k) h p = absurd (omega arith)
+
+  pub ending_more : (b m x : ℕ) (at : List ℕ) → Ending b m at → b < 64 → x ≡ links_up_to (chip f) b → Ending (b + 1) x (set at b x)
+  ending_more b m x at w h e =
+      record {
+        counted = rw (add-one b) (events_more b m x w.counted e);
+        long = length-set at b x ∙ w.long;
+        upto = λ k g. elim (ℕ_discrete b k) [
+          | yes p ↦ subst (λ (i : ℕ). get_or (set at b x) i 0 ≡ links_up_to (chip f) i) p (get_or-set_same at b x 0 (omega (arith, w.long)) ∙ e)
+          | no d ↦ get_or-set_other at b k x 0 (λ q. d (sym q)) ∙ w.upto k (omega (arith, d))
+        ];
+      }
+
+  pub ending_all : (b m : ℕ) (at : List ℕ) → Ending b m at → n < b → Ends f n at
+  ending_all b m at w h = record { upto = λ k g. w.upto k (omega arith) }
+
+  pub ends_few : Source f → (at : List ℕ) (b : ℕ) → Ends f n at → b ≤ n → get_or at b 0 ≤ 232
+  ends_few s at b w h = omega (arith, w.upto b h, most_links_lem f s b)

@@ -10,13 +10,12 @@ use lib.Dec.{T}
 use Rattle.models.specs.Recording.{Recording, event, of_class, read, write, fence, access, exclusive_read, strong_write, release_fence, fence_of}
 use Rattle.models.specs.Translated.{Translated, Control, kept, after_read, after_pair, after_casdep}
 use Rattle.models.proofs.MemberLaws.{class_event, class_is, mode_intro, access_event, access_cases}
-use Rattle.encoding.specs.Contents.{Contents}
+use Rattle.translation.specs.Contents.{Contents}
 use Rattle.translation.specs.Translate.{exclusive, strong, inserted, new_events, after, kept_or, new_mode, new_flag, translated}
 use Rattle.relation.proofs.Truth.{is_true, holds, same_test, is_false, by_test, and_left, and_right, and_both, T_or_left, T_or_right}
 use Rattle.translation.proofs.TranslateLaws as law
 use Rattle.translation.proofs.TranslateLaws.{flagged_is, Linked, stays, exclusively, casdep, New, new_is, new_intro}
-use Rattle.encoding.proofs.Says.{Says, Event, initially, recorded, event_says}
-use Rattle.translation.proofs.Flags.{flagged_says}
+use Rattle.translation.proofs.Says.{Says, Event, initially, recorded, event_says, flagged_says}
 
 -- What loading ensures of contents for this.
 pub record Sound (s : Contents) : Type 0 where

@@ -17,11 +17,10 @@ use Rattle.relation.proofs.Truth.{is_true, holds, and_left, and_right}
 use Rattle.layout.proofs.ChainFacts.{chain_ended, ended_start, ended_next, met_cases}
 use Rattle.recording.proofs.Accepted.{threads_sound_lem, legal_link, source_limits, sized as loaded-sized}
 use Rattle.recording.proofs.Loaded as loaded
-use Rattle.encoding.specs.Contents.{contents}
+use Rattle.translation.specs.Contents.{contents}
 use Rattle.translation.specs.Translate.{flagged}
 use Rattle.translation.specs.Parts.{Source}
-use Rattle.encoding.proofs.Says.{Says, contents_say}
-use Rattle.translation.proofs.Flags.{flagged_says}
+use Rattle.translation.proofs.Says.{Says, contents_say, flagged_says}
 
 module _ (f : List ℕ) (s : Source f) where
   pub sized : Sized f

@@ -14,7 +14,6 @@ use Rattle.models.specs.Translated.{Translated}
 use Rattle.models.proofs.Sound.{verdict_sound}
 use Rattle.layout.specs.Layout as layout
 use Rattle.layout.specs.Layout.{events, links, threads}
-use Rattle.layout.proofs.PlaceLaws.{start_most}
 use Rattle.layout.specs.Decode.{decode}
 use Rattle.recording.specs.Load.{LoadsAs}
 use Rattle.recording.proofs.Loaded as loaded
@@ -22,7 +21,7 @@ use Rattle.translation.specs.Translate.{translated}
 use Rattle.translation.specs.Translation.{chip, translation}
 use Rattle.translation.specs.Parts.{Source}
 use Rattle.translation.specs.Threads.{ThreadTranslated}
-use Rattle.encoding.proofs.EncodeLaws.{encode_events, encode_links, encode_length}
+use Rattle.translation.proofs.EncodeLaws.{encode_events, encode_links, encode_length}
 use Rattle.translation.proofs.Bounds.{most_events_lem, most_links_lem}
 use Rattle.translation.proofs.Threads.{thread_translated}
 use Rattle.translation.proofs.TranslationLoads.{translated_relates, without_isb, translation_accepted, translation_side}
@@ -43,7 +42,7 @@ module _ (f : List ℕ) (given : Source f) where
 
   pub few_bytes : length (translation f) ≤ 1320
   unfolding translation translated
-  few_bytes = omega (arith, encode_length (chip f), start_most (chip f).kind (chip f).events (most_events_lem f given), most_links_lem f given (chip f).events)
+  few_bytes = omega (arith, encode_length (chip f), most_events_lem f given, most_links_lem f given (chip f).events)
 
   -- "Eighteen is enough, since a thread of 12 has at most six strong writes."
   pub threads_translated : (t : ℕ) → t < threads → ThreadTranslated f t

@@ -1,34 +1,57 @@
 -- The threads of a translation: each is the source's with a fence after every strong write. Nothing is met twice or never (cause 6), and none is
 -- too long (cause 13), since a source thread has at most six strong writes.
 use mathlib.Core.Path.{◌≡◌, refl, sym, ap, ◌∙◌}
-use mathlib.Core.Bool.{true, false, false≢true}
-use mathlib.Core.List.{List, ◌∷◌}
+use mathlib.Core.Bool.{true, false, not, false≢true}
+use mathlib.Core.List.{List, ◌∷◌, ◌++◌}
 use mathlib.Core.Logic.{inl, inr}
-use Prim.Native.Nat.{ℕ, ◌+◌, ◌*◌, ◌<◌, ◌≤◌}
+use Prim.Native.Nat.{ℕ, zero, suc, ◌+◌, ◌*◌, ◌<◌, ◌≤◌}
 use native.Mathlib.Omega.{arith}
+use native.Mathlib.Decide.{ℕ_discrete, dec_le}
 use lib.ListN.{length}
 use Rattle.relation.specs.Rel.{Set}
 use Rattle.relation.proofs.Truth.{is_true, holds, is_false, by_test}
 use Rattle.models.specs.Recording.{flagged}
-use Rattle.layout.specs.Layout.{by_side, kind, events, threads, heads_of}
-use Rattle.layout.specs.Chains.{next_event, head, thread}
+use Rattle.layout.specs.Layout.{by_side, events, threads}
+use Rattle.layout.specs.Chains.{next_event, head, follow, chain, met, once_each, thread}
 use Rattle.layout.specs.Decode.{decode}
+use Rattle.layout.proofs.ChainLaws.{follow_in, follow_over}
 use Rattle.layout.proofs.ChainFacts.{Ended, end, step, chain_ended}
-use Rattle.layout.proofs.PlaceLaws.{head_none, chip_of_lem}
 use Rattle.recording.specs.Causes.{bad_threads}
-use Rattle.recording.proofs.Accepted.{source_thread}
-use Rattle.encoding.specs.Contents.{Contents, contents}
-use Rattle.encoding.specs.Encode.{encode}
-use Rattle.encoded.specs.Counts.{count_of}
-use Rattle.encoded.proofs.Expanded.{Expands, behind, gaining, gaining_length, count_yes, count_no}
-use Rattle.encoded.proofs.ExpandedThreads.{expanded_fine, thread_expanded}
-use Rattle.translation.specs.Translate.{strong, inserted, after, translated}
+use Rattle.recording.proofs.Accepted.{threads_sound_lem, source_thread}
+use Rattle.translation.specs.Contents.{Contents, contents}
+use Rattle.translation.specs.Translate.{strong, inserted, new_events, after, translated}
+use Rattle.translation.specs.Encode.{encode}
 use Rattle.translation.specs.Translation.{chip, translation}
 use Rattle.translation.specs.Parts.{Source}
-use Rattle.translation.specs.Threads.{strong_in, ThreadTranslated}
+use Rattle.translation.specs.Threads.{count_of, strong_in, ThreadTranslated}
+use Rattle.translation.proofs.EncodeLaws.{encode_events, encode_head}
+use Rattle.translation.proofs.Says.{encode_next}
+use Rattle.translation.proofs.Woven.{Weaves, woven, woven_once, woven_chain, woven_length, count_yes, count_no}
 use Rattle.translation.proofs.TranslateLaws as law
 use Rattle.translation.proofs.SourceFacts as source
 use Rattle.translation.proofs.Bounds.{not_both}
+
+-- Chains that agree within the limit meet the same.
+module _ (limit : ℕ) (next next' : ℕ → ℕ) (same : (x : ℕ) → 1 ≤ x → x ≤ limit → next x ≡ next' x) where
+  follow_same : (n x : ℕ) → follow limit next n x ≡ follow limit next' n x
+  unfolding follow
+  follow_same zero x = refl
+  follow_same (suc n) x =
+      elim (ℕ_discrete x 0) [
+        | yes e ↦ ap (follow limit next (suc n)) e ∙ ap (follow limit next' (suc n)) (sym e)
+        | no d ↦ elim (dec_le x limit) [
+          | yes h ↦ follow_in limit next n x d h
+              ∙ ap (◌∷◌ x) (follow_same n (next x) ∙ ap (follow limit next' n) (same x (omega (arith, d)) h)) ∙ sym (follow_in limit next' n x d h)
+          | no h ↦ follow_over limit next n x d (omega (arith, h)) ∙ sym (follow_over limit next' n x d (omega (arith, h)))
+        ]
+      ]
+
+  met_same : (start start' : ℕ → ℕ) (n : ℕ) → ((j : ℕ) → j < n → start j ≡ start' j) → met limit next start n ≡ met limit next' start' n
+  unfolding met
+  met_same start start' zero e = refl
+  met_same start start' (suc n) e =
+      ap (λ (l : List ℕ). l ++ chain limit next (start n)) (met_same start start' n (λ j h. e j (omega arith)))
+      ∙ ap (◌++◌ (met limit next' start' n)) (follow_same (suc limit) (start n) ∙ ap (chain limit next') (e n (omega arith)))
 
 -- A chain on which no member of s directly follows another: at most every second number is one.
 module _ (limit : ℕ) (next : ℕ → ℕ) (s : Set) (apart : (x : ℕ) → s x ≡ true → s (next x) ≡ false) where
@@ -70,28 +93,30 @@ module _ (f : List ℕ) (s : Source f) where
   strong_half t h =
       (half (events f) (next_event f) (strong old) strong_apart (chain_ended (events f) (next_event f) (head f) threads t h (source.threads_fresh f s))).0
 
-  abbrev expand : ℕ → List ℕ
-  expand = gaining behind (strong old) (inserted old)
+  weaves : Weaves old.events (new_events old) old.next (after old) (strong old) (inserted old)
+  weaves = law.weaves old (source.few_events f s)
 
-  expands : Expands (events f) (chip f).events (next_event f) (chip f).next (λ x. x) expand
-  unfolding translated contents
-  expands = law.expands old (source.few_events f s)
-
-  heads : (t : ℕ) → t < threads → (chip f).head t ≡ head f t
-  unfolding translated contents
-  heads t h = refl
-
-  no_heads : (t : ℕ) → heads_of (chip f).kind ≤ t → (chip f).head t ≡ 0
-  unfolding translated contents
-  no_heads t h = sym (head_none f t (heads_of (kind f)) refl (omega (arith, h, (chip_of_lem (kind f) s.side_is).heads)))
-
+  -- Cause 6.
   pub threads_fine : bad_threads new ≡ false
-  threads_fine = expanded_fine f s.loads (chip f) (λ x. x) expand expands heads no_heads
+  unfolding bad_threads translated contents
+  threads_fine =
+      ap (λ (n : ℕ). not (once_each n (met n (next_event new) (head new) threads))) (encode_events (chip f))
+      ∙ ap (λ (m : List ℕ). not (once_each (new_events old) m)) (met_same (new_events old) (next_event new) (after old) (encode_next (chip f)) (head new) (head f) threads (encode_head (chip f)))
+      ∙ ap not (woven_once old.events (new_events old) old.next (after old) (strong old) (inserted old) weaves (head f) threads (threads_sound_lem f s.loads))
+
+  -- One thread.
+  thread_woven : (t : ℕ) → t < threads → thread new t ≡ woven (strong old) (inserted old) (thread f t)
+  unfolding translated contents
+  thread_woven t h =
+      ap (λ (n : ℕ). chain n (next_event new) (head new t)) (encode_events (chip f))
+      ∙ follow_same (new_events old) (next_event new) (after old) (encode_next (chip f)) (suc (new_events old)) (head new t)
+      ∙ ap (chain (new_events old) (after old)) (encode_head (chip f) t h)
+      ∙ woven_chain old.events (new_events old) old.next (after old) (strong old) (inserted old) weaves (head f) threads (source.threads_fresh f s) t h
 
   pub thread_translated : (t : ℕ) → t < threads → ThreadTranslated f t
   unfolding translation by_side
   thread_translated t h =
-      let longer = ap length (thread_expanded f s.loads (chip f) (λ x. x) expand expands heads no_heads t h) ∙ gaining_length behind (strong old) (inserted old) (thread f t) in
+      let longer = ap length (thread_woven t h) ∙ woven_length (strong old) (inserted old) (thread f t) in
       record {
         few_strong = omega (arith, strong_half t h, source_thread f s t h);
         longer = longer;

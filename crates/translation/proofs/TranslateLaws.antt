@@ -10,10 +10,10 @@ use Rattle.relation.specs.Rel.{Set, nodes}
 use Rattle.relation.proofs.Truth.{and_left, and_right, and_both, or_either, or_left, or_right}
 use Rattle.relation.proofs.Meaning.{compose_sound, compose_complete, mem_below}
 use Rattle.relation.proofs.SetLaws.{least_at}
-use Rattle.encoding.specs.Contents.{Contents}
+use Rattle.translation.specs.Contents.{Contents}
 use Rattle.translation.specs.Translate.{flagged, exclusive, strong, inserted, new_events, fenced, after, follows, kept_or, new_mode, new_flag, controlled, from_exclusive, from_casdep, new_link}
 use Rattle.relation.proofs.Counting.{count_lt, count_injective, select}
-use Rattle.encoded.proofs.Expanded.{Gains, Expands, behind, gaining, expands_behind}
+use Rattle.translation.proofs.Woven.{Weaves}
 
 module _ (s : Contents) where
   -- What it is to be flagged.
@@ -78,18 +78,18 @@ module _ (s : Contents) where
   pub after_inserted : s.events < 64 → (w : ℕ) → strong s w ≡ true → after s (inserted s w) ≡ s.next w
   after_inserted small w h = after_new (inserted s w) (inserted_above w h).0 ∙ ap s.next (fenced_inserted small w h)
 
-  pub gains : Gains s.events (new_events s) (strong s) (inserted s)
-  gains =
+  pub weaves : s.events < 64 → Weaves s.events (new_events s) s.next (after s) (strong s) (inserted s)
+  weaves small =
       record {
         wider = more_events;
+        plain = λ x h g e. after_plain x g e;
+        into = after_strong;
+        out = after_inserted small;
         old = λ x h. (let f = flagged_is 2 x h in (f.low, f.high));
         above = inserted_above;
         apart = inserted_apart;
         every = inserted_every;
       }
-
-  pub expands : s.events < 64 → Expands s.events (new_events s) s.next (after s) (λ x. x) (gaining behind (strong s) (inserted s))
-  expands small = expands_behind s.events (new_events s) (strong s) (inserted s) s.next (after s) gains (λ x h g e. after_plain x g e) after_strong (after_inserted small)
 
   -- What the records say.
   pub kept : (v : ℕ → ℕ) (new e : ℕ) → e ≤ s.events → kept_or s v new e ≡ v e

@@ -1,42 +1,93 @@
--- Laws of the call: that what the encoder writes is the translation, what is answered of an input, and that what is written is short.
-use mathlib.Core.Path.{◌≡◌, sym, ap, ap₂, subst, ◌∙◌}
+-- Laws of the call: that the parts written make up the translation, what is answered of an input, and that what is written is short.
+use mathlib.Core.Path.{◌≡◌, sym, ap, subst, ◌∙◌}
 use mathlib.Core.Logic.{inl, inr}
-use mathlib.Core.List.{List}
-use Prim.Native.Nat.{ℕ, suc, ◌+◌, ◌≤◌}
+use mathlib.Core.List.{List, ◌++◌}
+use Prim.Native.Nat.{ℕ, suc, ◌+◌, ◌-◌, ◌*◌, ◌<◌, ◌≤◌}
 use native.Mathlib.Omega.{arith}
-use lib.ListN.{take}
-use Rattle.layout.specs.Layout.{source, kind, locations, chip_of}
+use lib.ListN.{length, take, drop, length-drop}
+use lib.Seq.{take_all}
+use Rattle.layout.specs.Layout.{source}
 use Rattle.recording.specs.Causes.{refusal}
 use Rattle.recording.specs.Load.{cause_for}
 use Rattle.recording.specs.Input.{longest}
 use Rattle.recording.proofs.CauseLaws.{cause_goes_on, cause_own, cause_early}
 use Rattle.recording.proofs.Longest.{read_of}
-use Rattle.output.specs.Output.{Fills}
+use Rattle.output.specs.Output.{placed, Fills}
 use Rattle.output.specs.declared.Filled.{Filled}
-use Rattle.output.specs.declared.Filled.TheVariants.{Written}
-use Rattle.output.proofs.FillLaws.{fills_none, fills_other, fills_few}
-use Rattle.encoding.specs.Contents.{contents}
-use Rattle.encoding.specs.Encode.{encode}
-use Rattle.encoding.specs.Arrays.{held}
-use Rattle.translation.specs.Translate.{new_events}
-use Rattle.translation.specs.Translation.{translation}
-use Rattle.translation.specs.Parts.{Source, FieldsOf, LinksOf, head_row}
-use Rattle.translation.proofs.Held.{held_translation}
+use Rattle.output.specs.declared.Filled.TheVariants.{Refused, Written}
+use Rattle.output.proofs.OutputLaws.{length_placed, placed_placed, part_placed}
+use Rattle.output.proofs.FillLaws.{fills_short, fills_written, fills_other, fills_few}
+use Rattle.translation.specs.Contents.{contents}
+use Rattle.translation.specs.Translate.{new_events, translated}
+use Rattle.translation.specs.Encode.{links_up_to, header, event_records, link_records, encode}
+use Rattle.translation.specs.Translation.{chip, translation}
+use Rattle.translation.specs.Parts.{Source}
+use Rattle.translation.proofs.EncodeLaws.{header_size_lem, events_length, encode_length}
 use Rattle.translation.proofs.Theorems.{few_bytes}
 
 module _ (f : List ℕ) where
-  -- The encoder's answer is the call's.
-  pub fills_translation : Source f → (k n l : ℕ) (heads : List ℕ) (fields : List (List ℕ)) (links : List (List (List ℕ))) → k ≡ chip_of (kind f) → l ≡ locations f
-      → n ≡ new_events (contents f) → heads ≡ head_row f → FieldsOf f n fields → LinksOf f n links → (out : List ℕ) (r : Filled) (left : List ℕ)
-      → Fills 0 (encode (held k n l heads fields links)) out r left → Fills (cause_for source f) (translation f) out r left
-  fills_translation s k n l heads fields links p q many h fs ls out r left w =
-      let same : encode (held k n l heads fields links) ≡ translation f =
-      ap₂ (λ (x y : ℕ). encode (held x n y heads fields links)) p q ∙ held_translation f s n heads fields links many h fs ls in
-      fills_none (cause_for source f) (translation f) out r left (cause_own source f s) (subst (λ (b : List ℕ). Fills 0 b out r left) same w)
+  -- The measured length is the translation's.
+  measured : (n m : ℕ) → n ≡ new_events (contents f) → m ≡ links_up_to (chip f) n → 8 + 8 * n + 4 * m ≡ length (translation f)
+  unfolding translation translated
+  measured n m p q =
+      let c = chip f in
+      omega (arith, encode_length c, p, q ∙ ap (λ (x : ℕ). links_up_to c x) p)
+
+  pub refused_short : (n m : ℕ) (out : List ℕ) → Source f → n ≡ new_events (contents f) → m ≡ links_up_to (chip f) n
+      → length out < 8 + 8 * n + 4 * m → Fills (cause_for source f) (translation f) out (Refused 12) out
+  refused_short n m out p u v h = fills_short (cause_for source f) (translation f) out (cause_own source f p) (omega (arith, measured n m u v))
 
   -- What is written has at most 1320 bytes, whatever the room.
   pub few_written : (out : List ℕ) (r : Filled) (left : List ℕ) → Fills (cause_for source f) (translation f) out r left → (n : ℕ) → r ≡ Written n → n ≤ 1320
   few_written out r left w = fills_few (cause_for source f) (translation f) out r left w 1320 (λ e. few_bytes f (cause_goes_on source f e))
+
+-- Behind the header there is room for the events.
+header_length : (f out one : List ℕ) (n m : ℕ) → 8 + 8 * n + 4 * m ≤ length out → one ≡ placed out 0 (header (chip f)) → length one ≡ length out
+header_length f out one n m room first =
+    let c = chip f in
+    ap length first ∙ length_placed out 0 (header c) (omega (arith, header_size_lem c))
+
+pub events_room : (f out one : List ℕ) (n m : ℕ) → 8 + 8 * n + 4 * m ≤ length out → one ≡ placed out 0 (header (chip f)) → 8 + 8 * n ≤ length one
+events_room f out one n m room first = omega (arith, header_length f out one n m room first)
+
+module _ (f : List ℕ) (out one two part : List ℕ) (n m : ℕ) (p : Source f) (u : n ≡ new_events (contents f))
+    (v : m ≡ links_up_to (chip f) n) (room : 8 + 8 * n + 4 * m ≤ length out)
+    (first : one ≡ placed out 0 (header (chip f))) (second : two ≡ placed one 8 (event_records (chip f) (suc n))) where
+  -- The output stays as long as it was.
+  sizes : (length one ≡ length out) × (length two ≡ length out)
+  sizes =
+      let c = chip f in
+      let a = header_length f out one n m room first in
+      (a, ap length second ∙ length_placed one 8 (event_records c (suc n)) (omega (arith, events_length c n)) ∙ a)
+
+  pub links_part : 4 * links_up_to (chip f) n ≤ length (take (length two - (8 + 8 * n)) (drop (8 + 8 * n) two))
+  links_part =
+      let rest = drop (8 + 8 * n) two in
+      let size = length-drop (8 + 8 * n) two in
+      omega (arith, sizes.1, v, ap length (take_all (length two - (8 + 8 * n)) rest (omega arith)))
+
+  whole : header (chip f) ++ (event_records (chip f) (suc n) ++ link_records (chip f) (512 * suc n)) ≡ translation f
+  unfolding translation encode translated
+  whole =
+      let c = chip f in
+      ap (λ (x : ℕ). header c ++ (event_records c (suc x) ++ link_records c (512 * suc x))) u
+
+  placed_whole : placed two (8 + 8 * n) (link_records (chip f) (512 * suc n)) ≡ placed out 0 (translation f)
+  placed_whole =
+      let c = chip f in
+      let ev = event_records c (suc n) in
+      let ln = link_records c (512 * suc n) in
+      ap (λ (d : List ℕ). placed d (8 + 8 * n) ln) second
+      ∙ placed_placed one 8 ev ln (8 + 8 * n) (omega (arith, sizes.0, events_length c n)) (omega (arith, events_length c n))
+      ∙ ap (λ (d : List ℕ). placed d 8 (ev ++ ln)) first ∙ placed_placed out 0 (header c) (ev ++ ln) 8 (omega (arith, header_size_lem c)) (omega (arith, header_size_lem c))
+      ∙ ap (placed out 0) whole
+
+  pub all_written : part ≡ placed (take (length two - (8 + 8 * n)) (drop (8 + 8 * n) two)) 0 (link_records (chip f) (512 * suc n))
+      → Fills (cause_for source f) (translation f) out (Written (8 + 8 * n + 4 * m)) (take (8 + 8 * n) two ++ (part ++ drop (length two - (8 + 8 * n)) (drop (8 + 8 * n) two)))
+  all_written third =
+      let size = measured f n m u v in
+      fills_written (cause_for source f) (translation f) out (cause_own source f p) (omega (arith, size)) (8 + 8 * n + 4 * m) size _
+      (part_placed two (8 + 8 * n) (link_records (chip f) (512 * suc n)) part (omega (arith, sizes.1)) third ∙ placed_whole)
 
 -- A call on what is read of an input answers, and leaves the output, as one on the input.
 pub fills_input : (input start : List ℕ) → start ≡ take (longest + 1) input → (out : List ℕ) (r : Filled) (left : List ℕ)

@@ -1,39 +1,43 @@
 -- Every translation of a source file that loads, loads, and is related to the source as `models` asks.
 use mathlib.Core.Path.{◌≡◌, refl, sym, ap, ◌∙◌}
-use mathlib.Core.Bool.{true}
+use mathlib.Core.Bool.{true, false, not, false≢true}
 use mathlib.Core.List.{List}
 use mathlib.Core.Logic.{inl, inr}
-use Prim.Native.Nat.{ℕ, ◌<◌, ◌≤◌}
+use Prim.Native.Nat.{ℕ, ◌+◌, ◌*◌, ◌<◌, ◌≤◌}
 use native.Mathlib.Omega.{arith}
-use borrow.Author.Tests.{eqb-true}
-use lib.Dec.{T}
+use native.Mathlib.Decide.{dec_le}
+use borrow.Author.Tests.{eq-eqb, eqb-true, le-ltb, ltb-true}
+use lib.Dec.{T, eqb}
 use lib.ListN.{length}
-use Rattle.models.specs.Recording.{Recording, event, write, member, Fisb}
+use Rattle.relation.specs.Rel.{nodes, below, inverse, some}
+use Rattle.relation.proofs.Meaning.{some_sound, below_mem}
+use Rattle.models.specs.Recording.{Recording, event, write, strong_write, member, Fisb}
 use Rattle.models.specs.Loads.{Loads}
 use Rattle.models.specs.Translated.{Translated}
 use Rattle.models.proofs.FromTranslated.{translation_loads}
 use Rattle.models.proofs.MemberLaws.{class_event, class_is, mode_class, mode_is}
 use Rattle.layout.specs.Layout as layout
-use Rattle.layout.specs.Layout.{Side, side, locations, threads, by_side, most_in_thread}
-use Rattle.layout.proofs.PlaceLaws.{chip_of_lem}
-use Rattle.layout.specs.Chains.{thread}
+use Rattle.layout.specs.Layout.{Side, side_of, side, events, locations, threads, kind_known, by_side, most_in_thread, full_length, link_byte}
+use Rattle.layout.specs.Chains.{thread, links_into, all_of}
 use Rattle.layout.specs.Decode.{decode}
-use Rattle.recording.specs.Causes.{legal, link_legal, rf_legal, refusal}
-use Rattle.encoding.specs.Contents.{Contents, contents}
-use Rattle.translation.specs.Translate.{new_events, translated}
-use Rattle.encoding.specs.Encode.{encode}
+use Rattle.recording.specs.Causes.{event_legal, too_long, legal, link_legal, link_sound, one_source, links_sound_at, paired_at, header_over, rf_legal, too_short, kind_unknown, over_limit, wrong_length, bad_event, long_thread, bad_chains, bad_link, co_ring, unpaired, refusal}
+use Rattle.translation.specs.Contents.{Contents, contents}
+use Rattle.translation.specs.Translate.{flagged, strong, new_events, new_flag, translated}
+use Rattle.translation.specs.Encode.{links_before, links_up_to, link_record, encode}
 use Rattle.translation.specs.Translation.{chip, translation}
 use Rattle.translation.specs.Parts.{Source}
-use Rattle.relation.proofs.Truth.{is_true, holds, and_right}
-use Rattle.recording.proofs.Accepted.{legal_event}
+use Rattle.relation.proofs.Truth.{is_true, holds, is_false, by_test, and_right, and_both, or_left}
+use Rattle.recording.proofs.Accepted.{accepts, each_all, legal_event}
+use Rattle.translation.proofs.EncodeLaws.{encode_length, encode_full, encode_kind, encode_events, encode_locations, encode_links}
+use Rattle.translation.proofs.Runs.{run_all}
+use Rattle.translation.proofs.EncodedLinks.{numbered, link_byte_lem, links_at, links_at_lem, links_within, links_into_lem, links_sound_lem, on_chain, encoded_link}
 use Rattle.translation.proofs.TranslateLaws as law
-use Rattle.translation.proofs.TranslateLaws.{Linked, stays, exclusively, casdep, new_is}
-use Rattle.encoding.proofs.Says.{Says, Event, initially, recorded, event_says, encode_says}
+use Rattle.translation.proofs.TranslateLaws.{flagged_is, Linked, stays, exclusively, casdep, new_is}
+use Rattle.translation.proofs.Says.{Says, Event, initially, recorded, event_says, flagged_says, encode_says}
 use Rattle.translation.proofs.SourceFacts as source
 use Rattle.translation.proofs.Bounds.{most_events_lem, most_links_lem, links_fit}
-use Rattle.encoded.proofs.LegalAt.{legal_at, legal_says}
-use Rattle.translation.proofs.LegalEvents.{translated_fence, fence_modes, write_flags, legal_new}
-use Rattle.encoded.proofs.EncodedLoads.{Loadable, encoded_accepted, encoded_side}
+use Rattle.translation.proofs.LegalEvents.{legal_at, legal_says, translated_fence, fence_modes, write_flags, legal_new}
+use Rattle.translation.proofs.LegalLinks as legality
 use Rattle.translation.proofs.Threads.{threads_fine, thread_translated}
 use Rattle.translation.proofs.Relates.{Sound, relates}
 
@@ -101,6 +105,70 @@ module _ (f : List ℕ) (s : Source f) where
   chip_loads : Loads C
   chip_loads = translation_loads S C l translated_relates
 
+  -- Causes 1 to 4: the header and the length.
+  few_links : links_up_to (chip f) (chip f).events ≤ 255
+  few_links = omega (arith, most_links_lem f s (chip f).events)
+
+  long_enough : too_short (encode (chip f)) ≡ false
+  unfolding too_short
+  long_enough = le-ltb (length (encode (chip f))) 8 (omega (arith, encode_length (chip f)))
+
+  kind_known_lem : kind_unknown (encode (chip f)) ≡ false
+  unfolding kind_unknown kind_known translated
+  kind_known_lem = ap (λ (k : ℕ). not (kind_known k)) (encode_kind (chip f))
+
+  chip_side : side (encode (chip f)) ≡ layout.chip
+  unfolding side_of translated
+  chip_side = ap side_of (encode_kind (chip f))
+
+  within_limits : over_limit (encode (chip f)) ≡ false
+  unfolding over_limit header_over by_side translated contents
+  within_limits =
+      rw (
+        chip_side,
+        encode_events (chip f),
+        encode_locations (chip f),
+        encode_links (chip f),
+        le-ltb 48 (new_events old) (most_events_lem f s),
+        le-ltb 8 (locations f) (source.limits f s).1,
+        le-ltb 255 (links_up_to (chip f) (new_events old)) few_links,
+      )
+
+  right_length : wrong_length (encode (chip f)) ≡ false
+  unfolding wrong_length
+  right_length = ap not (eq-eqb (length (encode (chip f))) (full_length (encode (chip f))) (encode_full (chip f)))
+
+  -- 5: the events.
+  events_legal : bad_event (encode (chip f)) ≡ false
+  unfolding bad_event translated contents
+  events_legal = ap not (each_all (events (encode (chip f))) (event_legal (encode (chip f))) (λ e h g.
+      legal_says (encode (chip f)) (chip f) chip_says e h (omega (arith, g, encode_events (chip f)))
+      ∙ ap (λ (r : Side). legal_at r (locations (encode (chip f))) (chip f) e) chip_side ∙ ap (λ (k : ℕ). legal_at layout.chip k (chip f) e) (encode_locations (chip f))
+      ∙ legal_new (locations f) old old_legal e h))
+
+  -- 6 and 13: the threads.
+  threads_short : long_thread (encode (chip f)) ≡ false
+  unfolding long_thread too_long translation
+  threads_short = is_false (long_thread (encode (chip f))) (λ p.
+      let w = some_sound (below threads) (too_long (encode (chip f))) p in
+      let room = (thread_translated f s w.0 (below_mem threads w.0 w.1)).enough in
+      let over = rw chip_side at (ltb-true (most_in_thread (side (encode (chip f)))) (length (thread (encode (chip f)) w.0)) w.2) in
+      omega (arith, room, over))
+
+  -- 7: the link chains.
+  chains_fine : bad_chains (encode (chip f)) ≡ false
+  unfolding bad_chains
+  chains_fine = ap not (links_sound_lem (chip f) (links_fit f s))
+
+  -- 8: the links.
+  small : (e : ℕ) → T (event C e) → e < 64
+  unfolding translated contents
+  small e h = go (event_says C (chip f) chip_says e h)
+    where
+      go : Event C (chip f) chip_says e → e < 64
+      go (initially i g) = omega (arith, (source.limits f s).1)
+      go (recorded i g) = omega (arith, chip_few)
+
   types : (t a b : ℕ) → T (C.link t a b) → (1 ≤ t) × (t ≤ 6)
   unfolding translated
   types t a b h = go (new_is old t a b (sym (chip_says.link t a b) ∙ is_true (C.link t a b) h)).from
@@ -117,7 +185,8 @@ module _ (f : List ℕ) (s : Source f) where
       go : Event S old old_says e → C.value e ≡ S.value e
       go (initially i _) = chip_says.initial_value e i ∙ sym (old_says.initial_value e i)
       go (recorded i g) =
-          chip_says.value e i (omega (arith, law.more_events old)) ∙ law.kept old old.low 0 e g ∙ sym (old_says.value e i g)
+          chip_says.value e i (omega (arith, law.more_events old)) ∙ ap (λ (x : ℕ). x + 256 * (chip f).high e) (law.kept old old.low 0 e g)
+          ∙ ap (λ (x : ℕ). old.low e + 256 * x) (law.kept old old.high 0 e g) ∙ sym (old_says.value e i g)
 
   values : (a b : ℕ) → T (C.link 1 a b) → C.value a ≡ C.value b
   values a b h =
@@ -125,33 +194,73 @@ module _ (f : List ℕ) (s : Source f) where
       let w = l.rf a b (holds (S.link 1 a b) e) in
       same_value a (class_event S 2 a w.0) ∙ legal_values S (side f) a b (source.legal f s 1 a b e) ∙ sym (same_value b (class_event S 1 b w.1))
 
-  short : (t : ℕ) → t < threads → length (thread (encode (chip f)) t) ≤ most_in_thread layout.chip
-  unfolding translation
-  short t h = (thread_translated f s t h).enough
+  link_sound_lem : (b m : ℕ) → b ≤ (chip f).events → links_before (chip f) (512 * b) < m → m ≤ links_up_to (chip f) b → link_sound (encode (chip f)) b m ≡ true
+  unfolding link_sound link_record
+  link_sound_lem b m g h k =
+      let fit = links_fit f s in
+      let t = link_byte (encode (chip f)) m 1 in
+      let a = link_byte (encode (chip f)) m 2 in
+      let w = numbered (chip f) fit m (omega arith) (omega (arith, links_within (chip f) fit b g)) in
+      let is = encoded_link (chip f) fit t a b ∙ on_chain (chip f) fit b m t a g h k refl refl in
+      and_both (link_legal C (side (encode (chip f))) t a b) (eqb (link_byte (encode (chip f)) m 3) 0)
+      (legality.legal_link C chip_loads small types values (side (encode (chip f))) t a b is)
+      (eq-eqb (link_byte (encode (chip f)) m 3) 0 (link_byte_lem (chip f) fit m 3 w (omega arith)))
 
-  pub loadable : Loadable (chip f) layout.chip
-  unfolding translated contents by_side
-  loadable = record {
-    known = (chip_of_lem (layout.kind f) s.side_is).known;
-    side = (chip_of_lem (layout.kind f) s.side_is).side;
-    few = chip_few;
-    most_events_lem = most_events_lem f s;
-    most_locations_lem = (source.limits f s).1;
-    most_links_lem = omega (arith, most_links_lem f s (chip f).events);
-    legal = λ e h g. legal_new (locations f) old old_legal e h;
-    once_each_lem = threads_fine f s;
-    short = short;
-    fit = links_fit f s;
-    types = λ t a b e. (let w = types t a b (holds (C.link t a b) (chip_says.link t a b ∙ e)) in (w.0, omega (arith, w.1)));
-    sources = λ a b e. absurd (omega (arith, (types 7 a b (holds (C.link 7 a b) (chip_says.link 7 a b ∙ e))).1));
-    values = values;
-    loads = chip_loads;
-  }
+  links_fine : bad_link (encode (chip f)) ≡ false
+  unfolding bad_link links_sound_at
+  links_fine = ap not (each_all (events (encode (chip f))) (links_sound_at (encode (chip f))) (λ b h g.
+      let fit = links_fit f s in
+      let n : b ≤ (chip f).events = omega (arith, g, encode_events (chip f)) in
+      and_both (all_of (links_into (encode (chip f)) b) (link_sound (encode (chip f)) b)) (one_source C b)
+      (ap (λ (k : List ℕ). all_of k (link_sound (encode (chip f)) b)) (links_into_lem (chip f) fit b h n)
+      ∙ run_all (links_before (chip f) (512 * b)) (links_at (chip f) fit b) (link_sound (encode (chip f)) b) (λ m p q. link_sound_lem b m n p (omega (arith, q, links_at_lem (chip f) fit b))))
+      (legality.one_source_lem C chip_loads small types values b)))
+
+  -- 9: co.
+  no_ring : co_ring (encode (chip f)) ≡ false
+  unfolding co_ring
+  no_ring = legality.no_co_ring C chip_loads small types values
+
+  -- 10: there is no strong write.
+  none_strong : (e : ℕ) → strong_write C e ≡ false
+  unfolding translated
+  none_strong e = is_false (strong_write C e) (λ p. none (sym (flagged_says C (chip f) chip_says 2 e) ∙ p))
+    where
+      none : flagged (chip f) 2 e ≡ true → ⊥
+      none p =
+          let w = flagged_is (chip f) 2 e p in
+          elim (dec_le e old.events) [
+            | yes g ↦ (let c = sym (law.kept old old.class 3 e g) ∙ w.class in
+                let z = sym (law.kept old (new_flag old) 0 e g) ∙ w.flag in
+                elim (by_test (strong old e)) [
+                  | inl x ↦ omega (arith, law.flag_strong old e x)
+                  | inr x ↦ false≢true (sym x ∙ law.flagged_intro old 2 e (record { low = w.low; high = g; class = c; flag = sym (law.flag_kept old e x) ∙ z }))
+                ])
+            | no n ↦ omega (arith, law.made old old.class 3 e (omega (arith, n)), w.class)
+          ]
+
+  all_paired : unpaired (encode (chip f)) ≡ false
+  unfolding unpaired paired_at
+  all_paired = ap not (each_all (events (encode (chip f))) (paired_at (encode (chip f))) (λ e h g.
+      or_left (not (strong_write C e)) (some nodes (inverse (C.link 3) e)) (ap not (none_strong e))))
 
   pub translation_accepted : refusal (translation f) ≡ 0
   unfolding translation
-  translation_accepted = encoded_accepted (chip f) layout.chip loadable
+  translation_accepted =
+      accepts (encode (chip f)) (record {
+        cause1 = long_enough;
+        cause2 = kind_known_lem;
+        cause3 = within_limits;
+        cause4 = right_length;
+        cause5 = events_legal;
+        cause6 = threads_fine f s;
+        cause13 = threads_short;
+        cause7 = chains_fine;
+        cause8 = links_fine;
+        cause9 = no_ring;
+        cause10 = all_paired;
+      })
 
   pub translation_side : side (translation f) ≡ layout.chip
   unfolding translation
-  translation_side = encoded_side (chip f) layout.chip loadable
+  translation_side = chip_side

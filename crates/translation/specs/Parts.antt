@@ -1,12 +1,12 @@
 -- What the parts of the translator ask for and answer.
-use Rattle.std.specs.Prelude.{◌≡◌, Bool, true, false, ◌&&◌, List, [], ◌∷◌, ℕ, ◌<◌, ◌≤◌, leb, get_or}
-use Rattle.relation.specs.Rel.{Rel, either, inverse}
+use Rattle.std.specs.Prelude.{◌≡◌, Bool, true, false, ◌&&◌, List, [], ◌∷◌, ℕ, suc, ◌+◌, ◌<◌, ◌≤◌, leb, get_or}
+use Rattle.relation.specs.Rel.{Set, Rel, either, inverse, count}
 use Rattle.relation.specs.Bits.{bit}
-use Rattle.layout.specs.Layout.{source, event_byte}
-use Rattle.layout.specs.Chains.{head}
+use Rattle.layout.specs.Layout.{source}
 use Rattle.recording.specs.Load.{LoadsAs}
-use Rattle.encoding.specs.Contents.{Contents, contents}
-use Rattle.translation.specs.Translate.{new_events, follows, from_exclusive, from_casdep, kept_or, new_link, translated}
+use Rattle.translation.specs.Contents.{Contents, contents}
+use Rattle.translation.specs.Translate.{new_events, follows, from_exclusive, from_casdep, new_link, translated}
+use Rattle.translation.specs.Encode.{chained, records, is_link, link_record, links_up_to}
 
 -- A source file that loads.
 abbrev pub Source : List ℕ → Type 0
@@ -36,20 +36,14 @@ pub record Ready (f : List ℕ) (ctrl : Rel) : Type 0 where
   pub source : Source f
   pub grid : ctrl ≡ ctrl_into (contents f)
 
--- The fields of event e of the translation, as the encoder takes them.
-unfoldable pub field_row : List ℕ → ℕ → List ℕ
-field_row f e =
-    let c : Contents = translated (contents f) in
-    let kept : ℕ → ℕ = λ k. kept_or (contents f) (λ x. event_byte f x k) 0 e in
-    c.next e ∷ c.class e ∷ c.mode e ∷ c.flag e ∷ c.location e ∷ kept 5 ∷ kept 6 ∷ 0 ∷ 0 ∷ []
+-- How many links of the translation there are into events 1 to b, for each b up to n.
+pub record Ends (f : List ℕ) (n : ℕ) (at : List ℕ) : Type 0 where
+  pub upto : (b : ℕ) → b ≤ n → get_or at b 0 ≡ links_up_to (translated (contents f)) b
 
--- The fields of events 1 to n, and the sources of the links into them by type.
-abbrev pub FieldsOf : List ℕ → ℕ → List (List ℕ) → Type 0
-FieldsOf f n rows = (e : ℕ) → 1 ≤ e → e ≤ n → get_or rows e [] ≡ field_row f e
+-- The record of the link of type t from a, where n links come before those of the row, and `last` is the number of the last into the same event.
+unfoldable pub row_record : ℕ → ℕ → ℕ → Set → ℕ → List ℕ
+row_record t last n row a = chained last (suc (n + count a row)) ∷ t ∷ a ∷ 0 ∷ []
 
-abbrev pub LinksOf : List ℕ → ℕ → List (List (List ℕ)) → Type 0
-LinksOf f n links = (b : ℕ) → 1 ≤ b → b ≤ n → RowsInto (contents f) b (get_or links b [])
-
--- The heads of the eight threads.
-unfoldable pub head_row : List ℕ → List ℕ
-head_row f = head f 0 ∷ head f 1 ∷ head f 2 ∷ head f 3 ∷ head f 4 ∷ head f 5 ∷ head f 6 ∷ head f 7 ∷ []
+-- The records of the links numbered from k on, d numbers in all.
+unfoldable pub link_stretch : Contents → ℕ → ℕ → List ℕ
+link_stretch c k d = records (λ i. link_record c (k + i)) (λ i. is_link c (k + i)) d

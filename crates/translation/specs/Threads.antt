@@ -1,12 +1,17 @@
 -- Threads and their translation (02, slip 1): "Eighteen is enough, since a thread of 12 has at most six strong writes."
 -- `proofs/Theorems.antt` proves it of every thread of a source file that loads.
-use Rattle.std.specs.Prelude.{◌≡◌, List, ℕ, ◌+◌, ◌≤◌, length}
+use Rattle.std.specs.Prelude.{◌≡◌, true, false, List, [], ◌∷◌, ℕ, zero, suc, ◌+◌, ◌≤◌, length}
+use Rattle.relation.specs.Rel.{Set}
 use Rattle.layout.specs.Layout.{chip, most_in_thread}
 use Rattle.layout.specs.Chains.{thread}
-use Rattle.encoded.specs.Counts.{count_of}
-use Rattle.encoding.specs.Contents.{contents}
+use Rattle.translation.specs.Contents.{contents}
 use Rattle.translation.specs.Translate.{strong}
 use Rattle.translation.specs.Translation.{translation}
+
+-- How many of a list are in s.
+unfoldable pub count_of : List ℕ → Set → ℕ
+count_of [] s = zero
+count_of (x ∷ l) s = elim (s x) [ true ↦ suc (count_of l s) | false ↦ count_of l s ]
 
 -- The strong writes of thread t, from 0.
 abbrev pub strong_in : List ℕ → ℕ → ℕ

@@ -1,8 +1,7 @@
 -- The translation of a source recording (01, "The translation"), sentence by sentence.
 use Rattle.std.specs.Prelude.{Bool, true, false, ◌&&◌, ◌||◌, ℕ, suc, ◌+◌, eqb, leb}
 use Rattle.relation.specs.Rel.{Set, Rel, compose, least, count, nodes}
-use Rattle.layout.specs.Layout.{chip_of}
-use Rattle.encoding.specs.Contents.{Contents}
+use Rattle.translation.specs.Contents.{Contents}
 
 module _ (s : Contents) where
   -- The events of class k with flag 1: the exclusive reads, and the strong writes.
@@ -66,11 +65,11 @@ module _ (s : Contents) where
       leb 1 b && leb b new_events
       && ((leb 1 t && leb t 6 && s.link t a b) || (eqb t 6 && (from_exclusive a b || from_casdep a b)))
 
-  -- "The header has kind 2, the new N .., the old L and heads." (The chip kind of a source kind; that of kind 1 is 2.) An inserted fence has class 3, mode 5, and flag, location and value 0.
+  -- "The header has kind 2, the new N .., the old L and heads." An inserted fence has class 3, mode 5, and flag, location and value 0.
   unfoldable pub translated : Contents
   translated =
       record {
-        kind = chip_of s.kind;
+        kind = 2;
         events = new_events;
         locations = s.locations;
         head = s.head;

@@ -1,8 +1,8 @@
 -- The translation of a file (01, "The translation"). `Fills` of `output` says what a call answers and leaves.
 use Rattle.std.specs.Prelude.{List, ℕ}
-use Rattle.encoding.specs.Contents.{Contents, contents}
+use Rattle.translation.specs.Contents.{Contents, contents}
 use Rattle.translation.specs.Translate.{translated}
-use Rattle.encoding.specs.Encode.{encode}
+use Rattle.translation.specs.Encode.{encode}
 
 -- What its records say, and its bytes.
 abbrev pub chip : List ℕ → Contents

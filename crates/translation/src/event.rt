@@ -3,12 +3,11 @@
 ghost use Rattle.std.specs.Prelude.{◌≡◌, ◌&&◌, ◌+◌, ◌≤◌, ◌<◌, eqb};
 ghost use Rattle.relation.specs.Rel.{count};
 ghost use Rattle.layout.specs.Layout.{event_byte};
-ghost use Rattle.layout.specs.Chains.{head};
-ghost use Rattle.encoding.specs.Contents.{contents};
+ghost use Rattle.translation.specs.Contents.{contents};
 ghost use Rattle.translation.specs.Translate.{strong, inserted, new_events, fenced, after, kept_or, new_mode, new_flag};
-ghost use Rattle.translation.specs.Parts.{Source, NewEvent, field_row, FieldsOf, head_row};
+ghost use Rattle.translation.specs.Parts.{Source, NewEvent};
 
-use layout::{field, walk};
+use layout::field;
 
 // How many strong writes have a number below e.
 pub fn strong_below(file: &[u8], e: usize) -> usize
@@ -122,62 +121,4 @@ pub fn new_flag(file: &[u8], e: usize) -> usize
         return 0;
     }
     field::event_byte(file, e, 3)
-}
-
-// The fields of event e, as the encoder takes them.
-pub fn fields(file: &[u8], e: usize) -> [u8; 9]
-    requires { Source file.now × NewEvent (contents file.now) e }
-    ensures { result ≡ field_row file.now e }
-{
-    [
-        after(file, e) as u8,
-        kept_or(file, e, 1, 3) as u8,
-        new_mode(file, e) as u8,
-        new_flag(file, e) as u8,
-        kept_or(file, e, 4, 0) as u8,
-        kept_or(file, e, 5, 0) as u8,
-        kept_or(file, e, 6, 0) as u8,
-        0,
-        0,
-    ]
-}
-
-// The same of each event of n.
-pub fn table(file: &[u8], n: usize) -> [[u8; 9]; 64]
-    requires { Source file.now × (n ≡ new_events (contents file.now)) }
-    ensures { FieldsOf file.now n result }
-{
-    let mut h = [[0u8; 9]; 64];
-    let mut e: usize = 1;
-    while e <= n {
-        h[e] = fields(file, e);
-        e += 1;
-    }
-    h
-}
-
-// The head of thread t.
-pub fn head(file: &[u8], t: usize) -> u8
-    requires { Source file.now }
-    ensures { result ≡ head file.now t }
-{
-    let cursor = walk::head(file, t);
-    cursor.at as u8
-}
-
-// The heads of the eight threads.
-pub fn heads(file: &[u8]) -> [u8; 8]
-    requires { Source file.now }
-    ensures { result ≡ head_row file.now }
-{
-    [
-        head(file, 0),
-        head(file, 1),
-        head(file, 2),
-        head(file, 3),
-        head(file, 4),
-        head(file, 5),
-        head(file, 6),
-        head(file, 7),
-    ]
 }

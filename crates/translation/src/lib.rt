@@ -2,6 +2,7 @@
 
 pub mod event;
 pub mod link;
+pub mod write;
 
 ghost use Rattle.std.specs.Prelude.{List, ℕ, ◌≤◌};
 ghost use Rattle.layout.specs.Layout.{source};
@@ -10,8 +11,7 @@ ghost use Rattle.recording.specs.Input.{ReadOf};
 ghost use Rattle.output.specs.Output.{Fills};
 ghost use Rattle.translation.specs.Translation.{translation};
 
-use encoding::write;
-use layout::{field, kind};
+use layout::kind;
 use output::Filled;
 use recording::{INPUT, causes};
 
@@ -32,17 +32,20 @@ pub fn written(file: &[u8], out: &mut [u8]) -> Filled
     requires { LoadsAs source file.now }
     ensures { Fills (cause_for source file.now) (translation file.now) out.old result out.new }
 {
+    let ctrl = link::ctrl(file);
     let n = event::new_events(file);
-    let kind = kind::chip_of(file[0] as usize);
-    write::write(
-        out,
-        kind,
-        n,
-        field::locations(file),
-        event::heads(file),
-        event::table(file, n),
-        link::table(file, n),
-    )
+    let ends = link::ends(file, ctrl, n);
+    let m = ends[n] as usize;
+    let start = 8 + 8 * n;
+    let length = start + 4 * m;
+    if out.len() < length {
+        return Filled::Refused(12);
+    }
+    let header = write::header(file, n, m);
+    output::put(out, 0, &header);
+    write::write_events(out, file, ends, n);
+    write::write_links(&mut out[start..], file, ctrl, ends, n);
+    Filled::Written(length)
 }
 
 // The same of an input, of which the first n bytes of `start` were read.

@@ -1,11 +1,13 @@
-// The links of the translation of a source file that loads, as rows of sources by target and type.
+// The links of the translation of a source file that loads, as rows of sources by target and type, and how many there are.
 
-ghost use Rattle.std.specs.Prelude.{◌≡◌, ◌≤◌, ◌<◌};
+ghost use Rattle.std.specs.Prelude.{◌≡◌, ◌*◌, ◌≤◌, ◌<◌};
 ghost use Rattle.relation.specs.Bits.{bit, edge};
 ghost use Rattle.layout.specs.Layout.{events};
-ghost use Rattle.encoding.specs.Contents.{contents};
+ghost use Rattle.translation.specs.Contents.{contents};
 ghost use Rattle.translation.specs.Translate.{new_events, controlled};
-ghost use Rattle.translation.specs.Parts.{Source, NewEvent, Ready, RowsInto, LinksOf, targets, ctrl_into};
+ghost use Rattle.translation.specs.Encode.{links_before, links_up_to};
+ghost use Rattle.translation.specs.Translation.{chip};
+ghost use Rattle.translation.specs.Parts.{Source, NewEvent, Ready, RowsInto, Ends, targets, ctrl_into};
 
 use crate::event;
 use layout::field;
@@ -81,17 +83,34 @@ pub fn rows(file: &[u8], ctrl: Grid, b: usize) -> [Row; 8]
     h
 }
 
-// The same of each event of n.
-pub fn table(file: &[u8], n: usize) -> [[Row; 8]; 64]
-    requires { Source file.now × (n ≡ new_events (contents file.now)) }
-    ensures { LinksOf file.now n result }
+// How many links there are into events 1 to b, where there are n into smaller ones.
+pub fn links_up_to(file: &[u8], ctrl: Grid, b: usize, n: usize) -> usize
+    requires { Ready file.now (edge ctrl) × NewEvent (contents file.now) b × (n ≡ links_before (chip file.now) (512 * b)) }
+    ensures { (result ≡ links_up_to (chip file.now) b) × (result ≤ 232) }
 {
-    let ctrl = ctrl(file);
-    let mut h = [[[0u8; 8]; 8]; 64];
+    let rows = rows(file, ctrl, b);
+    let mut m = n;
+    let mut t: usize = 0;
+    while t < 8 {
+        m += row::size(rows[t]);
+        t += 1;
+    }
+    m
+}
+
+// How many links there are into events 1 to b, for each event b of n.
+pub fn ends(file: &[u8], ctrl: Grid, n: usize) -> [u8; 64]
+    requires { Ready file.now (edge ctrl) × (n ≡ new_events (contents file.now)) }
+    ensures { Ends file.now n result }
+{
+    let mut at = [0u8; 64];
+    let mut m: usize = 0;
     let mut b: usize = 1;
     while b <= n {
-        h[b] = rows(file, ctrl, b);
+        let z = links_up_to(file, ctrl, b, m);
+        at[b] = z as u8;
+        m = z;
         b += 1;
     }
-    h
+    at
 }

@@ -1,21 +1,18 @@
 -- `field::event_byte` meets its contract: a record lies within the file.
-use mathlib.Core.Path.{ap}
-use Prim.Native.Nat.{ℕ, ◌+◌}
-use lib.ListN.{get_or}
+use mathlib.Core.Path.{refl}
+use Prim.Native.Nat.{◌+◌, ◌-◌, ◌*◌}
 use native.Mathlib.Omega.{arith}
 use borrow.Author.Rules.{rules}
 use Rattle.layout.proofs.field.event_byte.Statement.{statement}
 use Rattle.layout.proofs.field.event_byte.Tie as tie
 
 cast-result : tie.Need-overflow-cast-result
-cast-result c = omega (arith, c.shared-slice-known2.given (c.before.event-place.result + c.before.before.before.args.k))
+cast-result c = omega (arith, c.shared-slice-known.given (8 + 8 * (c.before.args.i - 1) + c.before.args.k))
 
 returns : tie.Need-returns
-returns c =
-    let start = c.before.before.before in (
-      ap (λ (p : ℕ). get_or start.args.file.now (p + start.args.k) 0) c.before.event-place.ensures.0,
-      omega (arith, c.shared-slice-known2.given (c.before.event-place.result + start.args.k)),
-    )
+returns c = (refl, omega (arith, c.shared-slice-known.given (8 + 8 * (c.before.args.i - 1) + c.before.args.k)))
 
 pub event-byte-spec : {M : Type 1} → statement M
-event-byte-spec = tie.close (tie.spec (λ c κs. search rules) (λ c. search rules) (λ c. search rules) cast-result returns)
+event-byte-spec =
+    tie.close
+    (tie.spec (λ c. search rules) (λ c. search rules) (λ c. search rules) (λ c. search rules) (λ c. search rules) cast-result returns)

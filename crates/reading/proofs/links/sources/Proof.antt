@@ -9,21 +9,24 @@ use Rattle.reading.proofs.links.sources.Statement.{statement}
 use Rattle.reading.proofs.links.sources.Tie as tie
 
 abbrev invariant-loop : tie.invariant-loop
-invariant-loop file b t r₀ n₀ cursor₀ r n cursor = LinkWalk file (readable file) b n cursor.at × Taken file t b n cursor.at (bit r)
+invariant-loop file b t from r₀ n₀ cursor₀ r n cursor = LinkWalk file (readable file) b from n cursor.at × Taken file t b n cursor.at (bit r)
 
 abbrev decreases-loop : tie.decreases-loop
-decreases-loop file b t r₀ n₀ cursor₀ r n cursor = n
+decreases-loop file b t from r₀ n₀ cursor₀ r n cursor = n
 
 -- The link at which the walk stands.
 here : (c : tie.Else1 invariant-loop decreases-loop) → HereOf c.before.before.loop.invariant.0
 here c = walk_here c.before.before.loop.invariant.0 c.before.loop-test.true c.if1.false
 
+start-requires : tie.Need-start-requires invariant-loop decreases-loop
+start-requires c κs = omega (arith, c.before.before.before.before.requires.0.long)
+
 loop-holds : tie.Need-loop-init invariant-loop decreases-loop
 loop-holds c =
-    let pre = c.before.before.before.before.requires in
+    let pre = c.before.before.before.before.before.requires in
     let many = c.before.links.ensures.0 in
-    let first = c.first_link_lem.ensures.0 in
-    let walk = walk_start pre.0 pre.1 pre.2 many first (readable_le _) pre.3 in
+    let first = c.start.ensures.0 in
+    let walk = walk_start pre.0 pre.1 pre.2 c.before.before.before.events.ensures.0 many first (readable_le _) pre.3 in
     (walk, taken_start c.before.before.none.ensures many first)
 
 returns : tie.Need-returns invariant-loop decreases-loop
@@ -37,7 +40,7 @@ loop-again c =
     let turn = c.before.before.before.before.before in
     let inv = turn.before.before.loop.invariant in
     let link = here turn in
-    let next = c.next_link_lem.ensures.0 in
+    let next = c.moved.ensures.0 in
     let type-read = c.before.before.link-byte2.ensures.0 in
     let walk = walk_on inv.0 link next in
     elim c.before.if2.branch [
@@ -51,7 +54,7 @@ returns-2 c = (let inv = c.before.loop.invariant in taken_done inv.1 inv.0 (inr 
 pub sources-spec : {M : Type 1} → statement M
 sources-spec =
     tie.close
-    (tie.spec invariant-loop decreases-loop (λ c κs. search rules) (λ c κs. search rules)
-    (λ c. search rules) (λ c κs. search rules) loop-holds returns (λ c κs. (let link = here c in search rules)) with-requires
+    (tie.spec invariant-loop decreases-loop (λ c κs. search rules) (λ c. search rules) (λ c. search rules) (λ c κs. search rules) (λ c κs. search rules)
+    (λ c. search rules) (λ c. search rules) start-requires loop-holds returns (λ c κs. (let link = here c in search rules)) with-requires
     (λ c κs. (let link = here c.before.before in search rules)) (λ c κs. (let link = here c.before.before.before.before in search rules))
     (λ c. search rules) (λ c. search rules) loop-again returns-2)

@@ -11,10 +11,10 @@ use Rattle.reading.proofs.thread.line.Statement.{statement}
 use Rattle.reading.proofs.thread.line.Tie as tie
 
 abbrev invariant-loop : tie.invariant-loop
-invariant-loop file r₀ t₀ r t = (t ≤ 8) × Sized file × (threads_sound file ≡ true) × Line file t r.len r.at
+invariant-loop file r₀ t₀ r t = (t ≤ 4) × Sized file × (threads_sound file ≡ true) × Line file t r.len r.at
 
 abbrev decreases-loop : tie.decreases-loop
-decreases-loop file r₀ t₀ r t = 8 - t
+decreases-loop file r₀ t₀ r t = 4 - t
 
 loop-holds : tie.Need-loop-init invariant-loop decreases-loop
 loop-holds c = (search rules, c.before.requires.0, c.before.requires.1, line_none _ _)

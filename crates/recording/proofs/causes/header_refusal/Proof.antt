@@ -5,10 +5,10 @@ use mathlib.Core.List.{List}
 use Prim.Native.Nat.{ℕ, ◌<◌}
 use native.Mathlib.Omega.{arith}
 use borrow.Author.Tests.{lt-ltb, le-ltb, eq-eqb, ne_eqb}
-use lib.ListN.{length, take}
+use lib.ListN.{take}
 use Rattle.models.specs.Rules.{first}
 use Rattle.models.proofs.FirstLaws.{at, positive, first_at, none_more}
-use Rattle.layout.specs.Layout.{events, links, full_length}
+use Rattle.layout.specs.Layout.{events, links}
 use Rattle.recording.specs.Causes.{too_short, kind_unknown, over_limit, wrong_length, header_causes}
 use Rattle.recording.proofs.CauseLaws.{over_of, sized_of}
 use borrow.Author.Rules.{rules}
@@ -59,17 +59,11 @@ returns-3 c =
 
 returns-4 : tie.Need-returns-4
 unfolding header_causes wrong_length at positive
-returns-4 c =
-    let start = c.before.link-start-of.ensures.0 in
-    let f = file (to-1 (to-2 c.before.before)) in
-    (sym (first_at 3 (header_causes f) refl (none-3 c.before.before) (ap not (ne_eqb (length f) (full_length f) (λ e. c.if4.true (omega (arith, e, start)))))), λ e. absurd (omega arith))
+returns-4 c = (sym (first_at 3 (header_causes _) refl (none-3 c.before) (ap not (ne_eqb _ _ c.if4.true))), λ e. absurd (omega arith))
 
 returns-5 : tie.Need-returns-5
 unfolding header_causes wrong_length at positive
-returns-5 c =
-    let start = c.before.link-start-of.ensures.0 in
-    let long : length (file (to-1 (to-2 c.before.before))) ≡ full_length (file (to-1 (to-2 c.before.before))) = omega (arith, start, c.if4.false) in
-    (sym (none_more 3 (header_causes _) refl (none-3 c.before.before) (ap not (eq-eqb _ _ long))), λ e. sized_of _ (within c.before.before) long)
+returns-5 c = (sym (none_more 3 (header_causes _) refl (none-3 c.before) (ap not (eq-eqb _ _ c.if4.false))), λ e. sized_of _ (within c.before) c.if4.false)
 
 pub header-refusal-spec : {M : Type 1} → statement M
 header-refusal-spec =
@@ -77,4 +71,4 @@ header-refusal-spec =
     (tie.spec returns (λ c. search rules) (λ c. omega (arith, c.shared-slice-known2.given 0)) (λ c κs. search rules) returns-2 (λ c. search rules)
     (λ c. omega (arith, c.shared-slice-known3.given 1)) (λ c. search rules) (λ c. omega (arith, c.shared-slice-known4.given 2))
     (λ c. search rules) (λ c. omega (arith, c.shared-slice-known5.given 3)) (λ c κs. search rules) (λ c κs. search rules) returns-3
-    (λ c κs. omega (arith, small c)) (λ c. omega (arith, small c.before)) (λ c. omega (arith, small c.before, c.link-start-of.ensures.1)) returns-4 returns-5)
+    (λ c. omega (arith, small c)) (λ c. omega (arith, small c)) (λ c. omega (arith, small c)) (λ c. omega (arith, small c)) returns-4 returns-5)

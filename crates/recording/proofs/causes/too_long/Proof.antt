@@ -5,7 +5,7 @@ use Rattle.recording.proofs.causes.too_long.Statement.{statement}
 use Rattle.recording.proofs.causes.too_long.Tie as tie
 
 returns : tie.Need-returns
-returns c = long_is _ _ _ _ _ c.before.before.side.ensures c.before.most-in-thread.ensures c.thread_length.ensures
+returns c = long_is _ _ _ _ _ c.before.before.side.ensures c.before.most-in-thread.ensures c.length-of.ensures
 
 pub too-long-spec : {M : Type 1} → statement M
 too-long-spec =

@@ -18,30 +18,33 @@ use Rattle.recording.proofs.links.sound_into.Statement.{statement}
 use Rattle.recording.proofs.links.sound_into.Tie as tie
 
 abbrev invariant-loop : tie.invariant-loop
-invariant-loop file b po rf₀ n₀ cursor₀ rf n cursor =
-    (edge po ≡ (base nodes (decode file)).po) × LinkWalk file (within file) b n cursor.at × Along file (link_sound file b) b n cursor.at
+invariant-loop file b po from rf₀ n₀ cursor₀ rf n cursor =
+    (edge po ≡ (base nodes (decode file)).po) × LinkWalk file (within file) b from n cursor.at × Along file (link_sound file b) b n cursor.at
     × Taken file 1 b n cursor.at (bit rf)
 
 abbrev decreases-loop : tie.decreases-loop
-decreases-loop file b po rf₀ n₀ cursor₀ rf n cursor = n
+decreases-loop file b po from rf₀ n₀ cursor₀ rf n cursor = n
 
 -- The link at which the walk stands.
 here : (c : tie.Else1 invariant-loop decreases-loop) → HereOf c.before.before.loop.invariant.1
 here c = walk_here c.before.before.loop.invariant.1 c.before.loop-test.true c.if1.false
 
-links-requires : tie.Need-links-requires invariant-loop decreases-loop
-links-requires c κs = c.before.before.requires.0.sized
+events-requires : tie.Need-events-requires invariant-loop decreases-loop
+events-requires c κs = c.before.requires.0.sized
 
-first-link-requires : tie.Need-first-link-requires invariant-loop decreases-loop
-first-link-requires c κs = (let pre = c.before.before.before.requires in (pre.0.sized, pre.2, pre.3))
+links-requires : tie.Need-links-requires invariant-loop decreases-loop
+links-requires c κs = c.before.before.before.requires.0.sized
+
+start-requires : tie.Need-start-requires invariant-loop decreases-loop
+start-requires c κs = let pre = c.before.before.before.before.requires in omega (arith, pre.0.sized.long, pre.2, pre.3)
 
 loop-holds : tie.Need-loop-init invariant-loop decreases-loop
 loop-holds c =
-    let pre = c.before.before.before.before.requires in
+    let pre = c.before.before.before.before.before.requires in
     let chains = pre.0.chains _ pre.2 pre.3 in
     let many = c.before.links.ensures.0 in
-    let first = c.first_link_lem.ensures.0 in
-    let walk = walk_start pre.0.sized pre.2 pre.3 many first (within_le _) chains in
+    let first = c.start.ensures.0 in
+    let walk = walk_start pre.0.sized pre.2 pre.3 c.before.before.before.events.ensures.0 many first (within_le _) chains in
     (pre.1, walk, along_start many first, taken_start c.before.before.none.ensures many first)
 
 returns : tie.Need-returns invariant-loop decreases-loop
@@ -82,7 +85,7 @@ loop-again c =
     let turn = if2.before.before.before.before.before in
     let inv = turn.before.before.loop.invariant in
     let link = here turn in
-    let next = c.next_link_lem.ensures.0 in
+    let next = c.moved.ensures.0 in
     let walk = walk_on inv.1 link next in
     let on = along_on inv.2 link next (sym if2.before.link_sound_lem.ensures ∙ not-false _ if2.if2.false) in
     let type-read = c.before.before.link-byte2.ensures.0 in
@@ -101,8 +104,8 @@ returns-3 c =
 pub sound-into-spec : {M : Type 1} → statement M
 sound-into-spec =
     tie.close
-    (tie.spec invariant-loop decreases-loop (λ c κs. search rules) links-requires (λ c. search rules)
-    first-link-requires loop-holds (λ c κs. search rules) returns (λ c κs. (let link = here c in search rules)) mul-after
+    (tie.spec invariant-loop decreases-loop events-requires (λ c. search rules) (λ c. search rules) (λ c κs. search rules) links-requires (λ c. search rules)
+    (λ c. search rules) start-requires loop-holds (λ c κs. search rules) returns (λ c κs. (let link = here c in search rules)) mul-after
     (λ c. mask_lt c.link_byte_lem.result 6) has-requires link-sound-requires returns-2 with-requires
     (λ c κs. (let link = here c.before.before.before.before.before.before in search rules))
     (λ c κs. (let link = here c.before.before.before.before.before.before.before.before in search rules)) (λ c. search rules)

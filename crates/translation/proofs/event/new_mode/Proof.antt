@@ -2,7 +2,7 @@
 use mathlib.Core.Path.{◌≡◌}
 use Prim.Native.Nat.{ℕ}
 use native.Mathlib.Omega.{arith}
-use Rattle.encoding.specs.Contents.{contents}
+use Rattle.translation.specs.Contents.{contents}
 use Rattle.translation.specs.Translate.{kept_or, new_mode}
 use Rattle.translation.proofs.SourceFacts.{sized}
 use Rattle.translation.proofs.EventLaws.{fence_has, event_keeps, mode_stays, mode_five, mode_six}

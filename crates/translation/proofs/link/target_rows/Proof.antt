@@ -2,7 +2,7 @@
 use Prim.Native.Nat.{◌-◌, ◌≤◌}
 use Rattle.relation.specs.Rel.{none}
 use Rattle.relation.proofs.GridLaws.{Rows, rows_none_of, rows_set, rows_all}
-use Rattle.encoding.specs.Contents.{contents}
+use Rattle.translation.specs.Contents.{contents}
 use Rattle.translation.specs.Parts.{Source, targets}
 use Rattle.translation.proofs.LinkRows.{targets_out}
 use borrow.Author.Rules.{rules}

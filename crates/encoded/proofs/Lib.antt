@@ -1,6 +1,0 @@
--- Laws of encoded recordings.
-pub mod Expanded
-pub mod ExpandedThreads
-pub mod LegalAt
-pub mod LegalLinks
-pub mod EncodedLoads

@@ -1,2 +1,0 @@
--- The definitions that the laws of encoded recordings cite.
-pub mod Counts
