@@ -30,6 +30,7 @@ some_sound (e ∷ es) s p =
 
 pub some_complete : (es : List ℕ) (s : Set) (x : ℕ) → Memᴰ x es → s x ≡ true → some es s ≡ true
 unfolding some
+some_complete [] s x x4 p = elim x4 [ ]
 some_complete (e ∷ es) s x (Memᴰ.head q) p = or_left (s e) (some es s) (ap s (sym q) ∙ p)
 some_complete (e ∷ es) s x (Memᴰ.tail m) p = or_right (s e) (some es s) (some_complete es s x m p)
 
@@ -44,6 +45,7 @@ mem_below (suc n) x h =
 
 pub below_mem : (n x : ℕ) → Memᴰ x (below n) → x < n
 unfolding below
+below_mem zero x x3 = elim x3 [ ]
 below_mem (suc n) x (Memᴰ.head e) = omega (arith, e)
 below_mem (suc n) x (Memᴰ.tail m) = let h = below_mem n x m in omega arith
 
@@ -123,6 +125,7 @@ passes_on s k m by-m x y p q =
 pub plus_passes : (es : List ℕ) (r : Rel) (m : ℕ) → Memᴰ m es → (x y : ℕ) → plus es r x m ≡ true → plus es r m y ≡ true
     → plus es r x y ≡ true
 unfolding plus through
+plus_passes [] r m x5 x y p q = elim x5 [ ]
 plus_passes (k ∷ ks) r m (Memᴰ.head e) x y p q =
     or_right (plus ks r x y) _ (and_both (plus ks r x k) (plus ks r k y)
     (elim (or_either (plus ks r x k) _ (subst (λ i. through k (plus ks r) x i ≡ true) e p)) [ inl h ↦ h | inr h ↦ and_left (plus ks r x k) _ h ])
