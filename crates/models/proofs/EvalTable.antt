@@ -101,6 +101,7 @@ settle false x y z f g = g (λ h. h)
 
 entry_map : {A : Type 0} (es : List ℕ) (k : ℕ) (f : ℕ → A) (d : A) → Memᴰ k es → entry es k (map f es) d ≡ f k
 unfolding entry
+entry_map {A = A} [] k f d x' = elim x' [ ]
 entry_map (e ∷ es) k f d (Memᴰ.head p) =
     settle (eqb e k) (f e) (entry es k (map f es) d) (f k) (λ h. ap f (sym p)) (λ n. absurd (n (subst (λ x. T (eqb e x)) (sym p) (eqb_refl e))))
 entry_map (e ∷ es) k f d (Memᴰ.tail m) =

@@ -1,1 +1,3 @@
 // The memory models: no code, only definitions and theorems.
+
+#![tactic(auto)]
