@@ -16,54 +16,40 @@ use Rattle.verdict.proofs.TermLaws.{holds, given, is_plus, terms}
 use borrow.Author.Rules.{rules}
 use Rattle.verdict.proofs.per_location.tried.Goals as goal
 
-abbrev base : goal.Else-incomplete-ne0 → Base
-base c = (base_of c.args.sets c.args.relations)
-
-abbrev from-or3 : goal.After-or-steps → goal.Else-incomplete-ne0
-from-or3 c = c.before.before.before.before.before.before.before.before
-
-abbrev from-coherence : goal.After-coherence-incoherent → goal.Else-incomplete-ne0
-from-coherence c = from-or3 c.before.before.before
-
 abbrev ring : Base → Rel
 ring B = eval nodes sc_per_loc B
-
--- The argument is fr of the base.
-abbrev Given : goal.Else-incomplete-ne0 → Type 0
-Given c = edge c.args.fr ≡ eval nodes fr (base c)
-
--- Rules 1 and 2 hold.
-hold-2 : (c : goal.Else-incomplete-ne0) (t : Term) → Hold 2 (per_location t) (base c)
-hold-2 c t = (c.completeness-incomplete.ensures (per_location t) (ring (base c)) (ring (base c))).holds c.if-incomplete-ne0.false
-
--- Rule 3.
-steps-are : (c : goal.After-or-steps) → Given (from-or3 c) → edge c.or-steps.result ≡ ring (base (from-or3 c))
-unfolding eval base_of
-steps-are c e = holds (base (from-or3 c)) sc_per_loc (search terms depth 9)
-
-inside : (c : goal.After-or-steps) → Given (from-or3 c) → Inside (ring (base (from-or3 c)))
-inside c e = subst Inside (steps-are c e) (edge_inside _ (search rules))
-
-tried_3 : (c : goal.After-coherence-incoherent) → Given (from-coherence c) → (t : Term) → let B = base (from-coherence c) in Tried 3 (ring B) (ring B) (per_location t) B c.coherence-incoherent.result
-unfolding eval
-tried_3 c e t =
-    let B = base (from-coherence c) in
-    let s = steps-are c.before.before.before e in
-    let closed = holds B (per_location t).coherent (is_plus c.closure.ensures (given s)) in
-    c.coherence-incoherent.ensures (per_location t) B (ring B) (ring B) (hold-2 (from-coherence c) t) (c.diagonal-returning.ensures ∙ ap diagonal closed) s s
-    (λ x h. (x, plus_closed _ (inside c.before.before.before e) x h))
 
 pub returns-then-incomplete-ne0 : goal.returns-then-incomplete-ne0
 returns-then-incomplete-ne0 c =
     λ e t. tried_broken _ _ _ _ _ 2 4 c.if-incomplete-ne0.true (c.completeness-incomplete.ensures (per_location t) _ _)
 
+-- Rule 3.
 pub returns-then-incoherent-ne0 : goal.returns-then-incoherent-ne0
-returns-then-incoherent-ne0 c = λ e t. tried_broken _ _ _ _ _ 3 4 c.if-incoherent-ne0.true (tried_3 c.before.before e t)
+unfolding eval base_of
+returns-then-incoherent-ne0 c =
+    λ e t.
+    let B : Base = base_of c.args.sets c.args.relations in
+    let s : edge c.or-steps.result ≡ ring B = holds B sc_per_loc (search terms depth 9) in
+    let inside : Inside (ring B) = subst Inside s (edge_inside _ (search rules)) in
+    let closed = holds B (per_location t).coherent (is_plus c.closure.ensures (given s)) in
+    let holds_2 : Hold 2 (per_location t) B = (c.completeness-incomplete.ensures (per_location t) (ring B) (ring B)).holds c.if-incomplete-ne0.false in
+    let three : Tried 3 (ring B) (ring B) (per_location t) B c.coherence-incoherent.result =
+      c.coherence-incoherent.ensures (per_location t) B (ring B) (ring B) holds_2 (c.diagonal-returning.ensures ∙ ap diagonal closed) s s
+          (λ x h. (x, plus_closed _ inside x h)) in
+    tried_broken _ _ _ _ _ 3 4 c.if-incoherent-ne0.true three
 
 -- Rule 4.
 pub returns : goal.returns
 unfolding eval base_of
 returns c =
-    λ e t. let B = base (from-coherence c.before.before.before.before.before.before) in
-    c.atomicity.ensures (per_location t) B (ring B) (ring B) ((tried_3 c.before.before.before.before.before.before e t).holds c.if-incoherent-ne0.false) refl
+    λ e t.
+    let B : Base = base_of c.args.sets c.args.relations in
+    let s : edge c.or-steps.result ≡ ring B = holds B sc_per_loc (search terms depth 9) in
+    let inside : Inside (ring B) = subst Inside s (edge_inside _ (search rules)) in
+    let closed = holds B (per_location t).coherent (is_plus c.closure.ensures (given s)) in
+    let holds_2 : Hold 2 (per_location t) B = (c.completeness-incomplete.ensures (per_location t) (ring B) (ring B)).holds c.if-incomplete-ne0.false in
+    let three : Tried 3 (ring B) (ring B) (per_location t) B c.coherence-incoherent.result =
+      c.coherence-incoherent.ensures (per_location t) B (ring B) (ring B) holds_2 (c.diagonal-returning.ensures ∙ ap diagonal closed) s s
+          (λ x h. (x, plus_closed _ inside x h)) in
+    c.atomicity.ensures (per_location t) B (ring B) (ring B) (three.holds c.if-incoherent-ne0.false) refl
     (holds B frₑ (search terms)) c.minus-2.ensures

@@ -6,12 +6,9 @@ use Rattle.verdict.proofs.PairLaws.{first_of_pairs, first_none, first_pair}
 use Rattle.verdict.specs.Shown.{first_of}
 use Rattle.verdict.proofs.rules.first_pair.Goals as goal
 
-first : (c : goal.After-first-a) → c.first-a.result ≡ first_of (edge c.args.g)
-first c = first_of_pairs _ c.all.ensures c.inverse.ensures c.image.ensures c.first-a.ensures
-
 pub returns-then-a-ge64 : goal.returns-then-a-ge64
-returns-then-a-ge64 c = first_none (first c.before) c.if-a-ge64.true
+returns-then-a-ge64 c = first_none (first_of_pairs _ c.all.ensures c.inverse.ensures c.image.ensures c.first-a.ensures) c.if-a-ge64.true
 
 pub returns : goal.returns
 unfolding edge
-returns c = first_pair (first c.before.before.before) refl c.first.ensures
+returns c = first_pair (first_of_pairs _ c.all.ensures c.inverse.ensures c.image.ensures c.first-a.ensures) refl c.first.ensures

@@ -7,8 +7,8 @@ use Rattle.verdict.proofs.shown.coherence.Goals as goal
 pub returns-then-first-lt64 : goal.returns-then-first-lt64
 returns-then-first-lt64 c =
     λ M B s e hold is p q around. let found = c.broken_ring.ensures in
-    tried_3 M B s e _ hold (event_found c.first.ensures is c.if-first-lt64.true) around found.0 found.1.0
-    (ring_same p q found.1.1)
+    tried_3 M B s e _ hold (event_found c.first.ensures is c.if-first-lt64.true) around found.answer found.bounded
+    (ring_same p q found.ring)
 
 pub returns : goal.returns
 unfolding failures at
