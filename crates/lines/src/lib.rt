@@ -1,6 +1,8 @@
 // The lines that the judge prints, as bytes: a line is made in a text.
 // The line is that of specs/Lines.antt; nothing is assumed of a verdict but that it shows at most 64 events.
 
+#![tactic(auto)]
+
 ghost use Rattle.std.specs.Prelude.{◌≡◌, [], ◌∷◌, map, ◌+◌, ◌*◌, ◌≤◌, length, take};
 ghost use Rattle.decimal.specs.Decimal.{decimal};
 ghost use Rattle.lines.specs.Lines.{model_word, spaced, line_of};
