@@ -1,5 +1,7 @@
 // What the programs share: reading an input, and printing.
 
+#![tactic(auto)]
+
 ghost use Rattle.std.specs.Prelude.{◌≤◌};
 
 use lines::Text;

@@ -11,7 +11,7 @@ ghost use Rattle.lines.specs.Put.{bytes, Room, Put};
 use verdict::{Answer, Verdict};
 
 // The model that a line is of: IMM or x86-TSO on a source recording, ARMv8 on a chip recording.
-#[derive(Drop)]
+#[derive(Clone, Copy)]
 pub enum Model {
     Source,
     Chip,
@@ -19,7 +19,7 @@ pub enum Model {
 }
 
 // Bytes: the first len of at.
-#[derive(Drop)]
+#[derive(Clone, Copy)]
 pub struct Text {
     pub at: [u8; 320],
     pub len: usize,
