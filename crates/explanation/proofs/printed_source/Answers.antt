@@ -15,7 +15,8 @@ pub returns : goal.returns
 returns c =
     let all = c.of_source-verdicts.ensures in
     let one = behind_none c.empty.result c.empty.ensures c.reasoned-first.ensures.text in
-    let two = c.reasoned-second.ensures.text in record { prints = record {
+    let two = c.reasoned-second.ensures.text in record {
+      prints = record {
         on_source = _;
         on_chip = _;
         on_tso = _;
@@ -24,4 +25,6 @@ returns c =
         tso = record { verdict = _; judged = all.tso; steps = _; explained = c.explained-2.ensures; prints = refl };
         judges = source_lines all.source all.chip all.tso all.sound all.tso_sound refl;
         prints = c.reasoned.ensures.text ∙ ap₂ ◌++◌ (two ∙ ap₂ ◌++◌ one refl) refl;
-      }; bounded = omega (arith, c.empty.ensures, c.reasoned-first.ensures.size, c.reasoned-second.ensures.size, c.reasoned.ensures.size) }
+      };
+      bounded = omega (arith, c.empty.ensures, c.reasoned-first.ensures.size, c.reasoned-second.ensures.size, c.reasoned.ensures.size);
+    }
