@@ -3,7 +3,7 @@ use mathlib.Core.Logic.{◌⊎◌, inl, inr}
 use Rattle.models.specs.Steps.{Plus, one, cons, on, stay}
 use Rattle.models.specs.Recording.{R, W, Rex, Fld, Fsy}
 use Rattle.models.specs.Graph.{Graph}
-use Rattle.models.specs.Term.{fr, rfᵢ, ◌∪◌, ⟦◌⟧}
+use Rattle.models.specs.Term.{rfᵢ, ◌∪◌, ⟦◌⟧}
 use Rattle.models.specs.Imm.{deps, ppo}
 use Rattle.models.specs.Armv8.{sc_per_loc}
 use Rattle.models.specs.Rules.{IMM, ARMv8, Rule1, Rule2, Rule3, Rule4, Allowed}

@@ -12,7 +12,7 @@ use lib.Dec.{eqb}
 use lib.ListN.{get_or}
 use Rattle.relation.specs.Rel.{Set, count, some}
 use Rattle.relation.proofs.Truth.{and_both, and_left, and_right}
-use Rattle.layout.specs.Layout.{events, links, link_start, link_byte}
+use Rattle.layout.specs.Layout.{links, link_start, link_byte}
 use Rattle.layout.specs.Chains.{next_of, start_of, next_link, first_link, links_into, chain, follow, met, links_sound, once_each}
 use Rattle.layout.specs.Decode.{is_recorded, decode}
 use Rattle.layout.proofs.FieldLaws.{recorded_bounds, recorded_is}

@@ -21,7 +21,7 @@ use Rattle.relation.proofs.Truth.{is_false, same_test, and_left, and_right, and_
 use Rattle.layout.proofs.FieldLaws.{recorded_bounds, next_first}
 use Rattle.recording.proofs.Loaded.{loaded_readable}
 use Rattle.translation.specs.Contents.{Contents, contents}
-use Rattle.translation.specs.Translate.{flagged, new_events, after, follows, controlled, from_exclusive, from_casdep, new_link, translated}
+use Rattle.translation.specs.Translate.{new_events, after, follows, controlled, from_exclusive, from_casdep, new_link, translated}
 use Rattle.translation.specs.Encode.{is_link, links_before, links_up_to}
 use Rattle.translation.specs.Translation.{chip}
 use Rattle.translation.specs.Parts.{Source, NewEvent, RowsInto, Ends, targets, ctrl_into}

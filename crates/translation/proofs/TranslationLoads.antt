@@ -11,7 +11,7 @@ use lib.Dec.{T, eqb}
 use lib.ListN.{length}
 use Rattle.relation.specs.Rel.{nodes, below, inverse, some}
 use Rattle.relation.proofs.Meaning.{some_sound, below_mem}
-use Rattle.models.specs.Recording.{Recording, event, write, strong_write, member, Fisb}
+use Rattle.models.specs.Recording.{Recording, event, strong_write, member, Fisb}
 use Rattle.models.specs.Loads.{Loads}
 use Rattle.models.specs.Translated.{Translated}
 use Rattle.models.proofs.FromTranslated.{translation_loads}
@@ -20,7 +20,7 @@ use Rattle.layout.specs.Layout as layout
 use Rattle.layout.specs.Layout.{Side, side_of, side, events, locations, threads, kind_known, by_side, most_in_thread, full_length, link_byte}
 use Rattle.layout.specs.Chains.{thread, links_into, all_of}
 use Rattle.layout.specs.Decode.{decode}
-use Rattle.recording.specs.Causes.{event_legal, too_long, legal, link_legal, link_sound, one_source, links_sound_at, paired_at, header_over, rf_legal, too_short, kind_unknown, over_limit, wrong_length, bad_event, long_thread, bad_chains, bad_link, co_ring, unpaired, refusal}
+use Rattle.recording.specs.Causes.{event_legal, too_long, link_legal, link_sound, one_source, links_sound_at, paired_at, header_over, rf_legal, too_short, kind_unknown, over_limit, wrong_length, bad_event, long_thread, bad_chains, bad_link, co_ring, unpaired, refusal}
 use Rattle.translation.specs.Contents.{Contents, contents}
 use Rattle.translation.specs.Translate.{flagged, strong, new_events, new_flag, translated}
 use Rattle.translation.specs.Encode.{links_before, links_up_to, link_record, encode}

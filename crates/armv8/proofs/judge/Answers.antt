@@ -7,7 +7,6 @@ use Rattle.models.specs.Term.{eval, frₑ}
 use Rattle.models.specs.Armv8.{ob, ob_clauses}
 use Rattle.models.proofs.ClauseLaws.{ob_opened}
 use Rattle.verdict.specs.Base.{base_of}
-use Rattle.verdict.specs.PerLocation.{TriedPerLocation}
 use Rattle.verdict.proofs.TermLaws.{holds, given, is_minus}
 use Rattle.clause.proofs.StepLaws.{held_union}
 use Rattle.armv8.proofs.judge.Goals as goal

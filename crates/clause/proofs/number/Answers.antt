@@ -1,6 +1,5 @@
 -- `number` meets its contract: n of the clauses are passed.
 use mathlib.Core.Path.{refl, sym, ◌∙◌}
-use Prim.Native.Nat.{◌-◌}
 use native.Mathlib.Omega.{arith}
 use Rattle.clause.proofs.StepLaws.{passed_more, passed_here, passed_all}
 use borrow.Author.Rules.{rules}

@@ -1,6 +1,5 @@
 -- `steps` meets its contract: k of the steps are made.
 use mathlib.Core.Path.{◌≡◌}
-use Prim.Native.Nat.{◌-◌}
 use native.Mathlib.Omega.{arith}
 use lib.ListN.{length}
 use Rattle.clause.proofs.StepLaws.{made_none, made_more, made_all}

@@ -1,5 +1,4 @@
 -- `union` meets its contract: k of the clauses are joined.
-use Prim.Native.Nat.{◌-◌}
 use native.Mathlib.Omega.{arith}
 use Rattle.clause.proofs.StepLaws.{joined_none, joined_more, joined_all}
 use borrow.Author.Rules.{rules}

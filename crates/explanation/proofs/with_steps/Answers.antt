@@ -1,5 +1,4 @@
 -- `with_steps` meets its contract: the lines of k of the steps are added.
-use Prim.Native.Nat.{◌-◌}
 use native.Mathlib.Omega.{arith}
 use Rattle.explanation.proofs.WhyLaws.{lined_none, lined_more, lined_all}
 use borrow.Author.Rules.{rules}

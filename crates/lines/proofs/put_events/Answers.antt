@@ -1,5 +1,4 @@
 -- `put_events` meets its contract: i of the events are put.
-use Prim.Native.Nat.{◌-◌}
 use Rattle.lines.proofs.PutLaws.{numbers_none, numbers_more, numbers_all}
 use borrow.Author.Rules.{rules}
 use Rattle.lines.proofs.put_events.Goals as goal

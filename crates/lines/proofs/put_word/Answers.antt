@@ -1,5 +1,4 @@
 -- `put_word` meets its contract: k bytes of the word are put.
-use Prim.Native.Nat.{◌-◌}
 use Rattle.lines.proofs.PutLaws.{word_none, word_room, word_more, word_all}
 use borrow.Author.Rules.{rules}
 use Rattle.lines.proofs.put_word.Goals as goal

@@ -1,5 +1,4 @@
 -- `put` meets its contract, byte by byte.
-use Prim.Native.Nat.{◌-◌}
 use native.Mathlib.Omega.{arith}
 use Rattle.output.proofs.OutputLaws.{putting_none, putting_more, putting_all}
 use borrow.Author.Rules.{rules}

@@ -5,7 +5,6 @@ use Rattle.relation.specs.Rel.{nodes}
 use Rattle.models.specs.Tso.{tso, tso_clauses}
 use Rattle.models.proofs.ClauseLaws.{tso_opened}
 use Rattle.verdict.specs.Base.{base_of}
-use Rattle.verdict.specs.PerLocation.{TriedPerLocation}
 use Rattle.clause.proofs.StepLaws.{held_union}
 use Rattle.tso.proofs.judge.Goals as goal
 

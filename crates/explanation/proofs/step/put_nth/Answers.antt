@@ -1,5 +1,4 @@
 -- `step::put_nth` meets its contract: of the word, what k bytes have of it is put.
-use Prim.Native.Nat.{◌-◌}
 use Rattle.explanation.proofs.NameLaws.{nth_none, nth_room, nth_more, nth_all}
 use borrow.Author.Rules.{rules}
 use Rattle.explanation.proofs.step.put_nth.Goals as goal

@@ -1,7 +1,7 @@
 -- `why::coherence` meets its contract: its clauses, call by call.
 use mathlib.Core.Path.{refl}
 use mathlib.Core.List.{[], ◌∷◌}
-use Rattle.models.specs.Term.{eval, rf, co, ◌⨾◌, fr}
+use Rattle.models.specs.Term.{eval, rf, ◌⨾◌, fr}
 use Rattle.verdict.specs.Base.{base_of}
 use Rattle.verdict.proofs.TermLaws.{holds, given, is_then}
 use Rattle.imm.proofs.why.coherence.Goals as goal

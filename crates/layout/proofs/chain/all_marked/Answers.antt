@@ -1,7 +1,6 @@
 -- `chain::all_marked` meets its contract, number by number.
 use mathlib.Core.Path.{refl, ap}
 use mathlib.Core.Bool.{not}
-use Prim.Native.Nat.{◌-◌}
 use native.Mathlib.Omega.{arith}
 use borrow.Author.Tests.{eq-eqb, ne_eqb}
 use Rattle.layout.proofs.EachLaws.{passed_none, passed_more, passed_fails, passed_all}

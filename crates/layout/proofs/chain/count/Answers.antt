@@ -1,5 +1,4 @@
 -- `chain::count` meets its contract: what was met, and what is left to follow.
-use Prim.Native.Nat.{◌-◌}
 use native.Mathlib.Omega.{arith}
 use Rattle.layout.proofs.ChainLaws.{count_begin, count_end, count_over, count_on, count_done}
 use Rattle.layout.proofs.chain.count.Goals as goal

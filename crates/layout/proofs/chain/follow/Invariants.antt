@@ -1,7 +1,7 @@
 -- `chain::follow` meets its contract: what is left of the chain decides what the whole does.
 use mathlib.Core.Path.{◌≡◌}
 use mathlib.Core.List.{List}
-use Prim.Native.Nat.{ℕ, ◌-◌, ◌<◌}
+use Prim.Native.Nat.{ℕ, ◌<◌}
 use lib.ListN.{length}
 use Rattle.layout.specs.Chains.{next_of, chain, Linked, Marked}
 use Rattle.layout.proofs.ChainLaws.{Going}

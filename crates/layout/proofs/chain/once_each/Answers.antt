@@ -1,5 +1,4 @@
 -- `chain::once_each` meets its contract, chain by chain.
-use Prim.Native.Nat.{◌-◌}
 use native.Mathlib.Omega.{arith}
 use Rattle.layout.proofs.ChainLaws.{walked_none, walked_more, walked_fails, walked_all}
 use borrow.Author.Rules.{rules}

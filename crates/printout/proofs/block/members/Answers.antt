@@ -1,5 +1,4 @@
 -- `block::members` meets its contract: the members of the first k are in the row.
-use Prim.Native.Nat.{◌-◌}
 use native.Mathlib.Omega.{arith}
 use Rattle.printout.proofs.BlockLaws.{members_none, members_more, members_all}
 use borrow.Author.Rules.{rules}

@@ -1,6 +1,5 @@
 -- `block::place` meets its contract: spaces for a fence, else the location and the value.
 use mathlib.Core.Path.{sym, ap, ◌∙◌}
-use Prim.Native.Nat.{◌≤◌}
 use native.Mathlib.Omega.{arith}
 use Rattle.recording.proofs.Accepted.{sized}
 use Rattle.decimal.specs.Decimal.{aligned}

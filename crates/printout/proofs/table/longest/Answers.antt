@@ -1,6 +1,6 @@
 -- `table::longest` meets its contract, thread by thread.
 use mathlib.Core.Path.{◌≡◌, ap, ◌∙◌}
-use Prim.Native.Nat.{ℕ, ◌-◌}
+use Prim.Native.Nat.{ℕ}
 use native.Mathlib.Omega.{arith}
 use Rattle.layout.specs.Layout.{threads}
 use Rattle.recording.proofs.Accepted.{sized}

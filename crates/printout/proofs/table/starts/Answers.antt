@@ -1,6 +1,5 @@
 -- `table::starts` meets its contract, thread by thread.
 use mathlib.Core.Path.{refl}
-use Prim.Native.Nat.{◌+◌, ◌-◌, ◌≤◌}
 use native.Mathlib.Omega.{arith}
 use Rattle.recording.proofs.Accepted.{sized}
 use Rattle.printout.proofs.TableLaws.{started_none, started_few, started_more, started_all}

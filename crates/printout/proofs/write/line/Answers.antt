@@ -1,6 +1,5 @@
 -- `write::line` meets its contract: block by block, then the line feed.
 use mathlib.Core.Path.{◌≡◌, ap, ◌∙◌}
-use Prim.Native.Nat.{◌-◌}
 use native.Mathlib.Omega.{arith}
 use lib.ListN.{length}
 use Rattle.output.proofs.OutputLaws.{length_placed}

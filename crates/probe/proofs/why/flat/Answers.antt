@@ -1,5 +1,4 @@
 -- `why::flat` meets its contract: k of the steps are written.
-use Prim.Native.Nat.{◌-◌}
 use native.Mathlib.Omega.{arith}
 use Rattle.probe.proofs.WhyLaws.{flat_none, flat_more, flat_all}
 use borrow.Author.Rules.{rules}

@@ -1,6 +1,4 @@
 -- `graph::by_location` meets its contract, event by event.
-use mathlib.Core.Logic.{inl, inr}
-use Prim.Native.Nat.{◌-◌}
 use native.Mathlib.Omega.{arith}
 use Rattle.reading.proofs.GraphLaws.{locating_none, locating_with, locating_keep, locating_all}
 use borrow.Author.Rules.{rules}

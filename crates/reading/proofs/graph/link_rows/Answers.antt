@@ -1,5 +1,4 @@
 -- `graph::link_rows` meets its contract, row by row.
-use Prim.Native.Nat.{◌-◌}
 use Rattle.relation.proofs.GridLaws.{rows_none_of, rows_set, rows_all}
 use Rattle.reading.proofs.GraphLaws.{link_out}
 use borrow.Author.Rules.{rules}

@@ -1,6 +1,5 @@
 -- `graph::place_of` meets its contract.
 use mathlib.Core.Path.{sym, ◌∙◌}
-use borrow.Author.Tests.{not-true, not-false}
 use Rattle.reading.proofs.GraphLaws.{place_none, place_far, place_here}
 use Rattle.reading.proofs.graph.place_of.Goals as goal
 

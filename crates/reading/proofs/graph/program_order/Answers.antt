@@ -2,7 +2,7 @@
 use mathlib.Core.Path.{◌≡◌, refl}
 use native.Mathlib.Omega.{arith}
 use lib.ListN.{length}
-use Rattle.reading.proofs.ThreadLaws.{backward_start, PlacedIn, placed, backward_keep, backward_with, backward_all}
+use Rattle.reading.proofs.ThreadLaws.{backward_start, placed, backward_keep, backward_with, backward_all}
 use borrow.Author.Rules.{rules}
 use Rattle.reading.proofs.graph.program_order.Goals as goal
 

@@ -1,5 +1,4 @@
 -- `graph::rows_by_type` meets its contract, row by row.
-use Prim.Native.Nat.{◌-◌}
 use native.Mathlib.Omega.{arith}
 use Rattle.relation.proofs.GridLaws.{rows_none_of, rows_set, rows_all}
 use Rattle.reading.proofs.GraphLaws.{link_out, link_rows}

@@ -1,6 +1,4 @@
 -- `graph::same_location` meets its contract, event by event.
-use mathlib.Core.Logic.{inl, inr}
-use Prim.Native.Nat.{◌-◌}
 use native.Mathlib.Omega.{arith}
 use Rattle.relation.proofs.GridLaws.{rows_none_of, rows_set, rows_keep, rows_all}
 use Rattle.reading.proofs.GraphLaws.{location_row, location_none, location_on, location_out}

@@ -1,6 +1,5 @@
 -- `graph::sources_by_type` meets its contract.
 use mathlib.Core.Path.{sym, ◌∙◌}
-use borrow.Author.Tests.{not-true, not-false}
 use Rattle.layout.proofs.FieldLaws.{recorded_bounds}
 use Rattle.reading.proofs.GraphLaws.{sources_none}
 use Rattle.reading.proofs.graph.sources_by_type.Goals as goal

@@ -1,6 +1,5 @@
 -- `graph::sources_of` meets its contract.
 use mathlib.Core.Path.{sym, ◌∙◌}
-use borrow.Author.Tests.{not-true, not-false}
 use Rattle.layout.proofs.FieldLaws.{recorded_bounds}
 use Rattle.reading.proofs.GraphLaws.{link_none}
 use Rattle.reading.proofs.graph.sources_of.Goals as goal

@@ -1,7 +1,7 @@
 -- `links::by_type` meets its contract: those sorted and those left are all.
 use mathlib.Core.Logic.{inl, inr}
 use native.Mathlib.Omega.{arith}
-use Rattle.reading.proofs.LinkLaws.{readable_le, readable_lt, HereOf, walk_start, walk_here, walk_on, sorted_start, sorted_with, sorted_keep, sorted_done}
+use Rattle.reading.proofs.LinkLaws.{readable_le, readable_lt, walk_start, walk_here, walk_on, sorted_start, sorted_with, sorted_keep, sorted_done}
 use borrow.Author.Rules.{rules}
 use Rattle.reading.proofs.links.by_type.Goals as goal
 

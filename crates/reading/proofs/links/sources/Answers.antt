@@ -1,7 +1,7 @@
 -- `links::sources` meets its contract: those taken and those left are all.
 use mathlib.Core.Logic.{inl, inr}
 use native.Mathlib.Omega.{arith}
-use Rattle.reading.proofs.LinkLaws.{readable_le, readable_lt, HereOf, walk_start, walk_here, walk_on, taken_start, taken_with, taken_keep, taken_done}
+use Rattle.reading.proofs.LinkLaws.{readable_le, readable_lt, walk_start, walk_here, walk_on, taken_start, taken_with, taken_keep, taken_done}
 use borrow.Author.Rules.{rules}
 use Rattle.reading.proofs.links.sources.Goals as goal
 

@@ -1,6 +1,4 @@
 -- `sets::sorted` meets its contract, member by member.
-use mathlib.Core.Logic.{inl, inr}
-use Prim.Native.Nat.{◌-◌}
 use native.Mathlib.Omega.{arith}
 use Rattle.reading.proofs.SortLaws.{sorting_first, sorting_recorded, sorting_with, sorting_keep, sorting_all}
 use Rattle.reading.proofs.sets.sorted.Goals as goal

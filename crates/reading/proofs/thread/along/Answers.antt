@@ -1,5 +1,4 @@
 -- `thread::along` meets its contract: what is in the line and what is left of the chain are all.
-use Prim.Native.Nat.{◌-◌}
 use native.Mathlib.Omega.{arith}
 use Rattle.reading.proofs.ThreadLaws.{partway_start, partway_done, partway_in, partway_more}
 use borrow.Author.Rules.{rules}

@@ -1,6 +1,4 @@
 -- `thread::line` meets its contract, thread by thread.
-use mathlib.Core.Bool.{true}
-use Prim.Native.Nat.{◌-◌}
 use Rattle.reading.proofs.ThreadLaws.{line_none, line_all}
 use borrow.Author.Rules.{rules}
 use Rattle.reading.proofs.thread.line.Goals as goal

@@ -1,16 +1,12 @@
 -- `causes::header_refusal` meets its contract: the first cause that applies.
 -- The file, and that the causes tried so far do not apply.
-use mathlib.Core.Path.{◌≡◌, refl, sym, ap, ◌∙◌}
-use mathlib.Core.Bool.{false, not}
-use mathlib.Core.List.{List}
-use Prim.Native.Nat.{ℕ, ◌<◌}
+use mathlib.Core.Path.{refl, sym, ap, ◌∙◌}
+use mathlib.Core.Bool.{not}
 use native.Mathlib.Omega.{arith}
 use borrow.Author.Tests.{lt-ltb, le-ltb, eq-eqb, ne_eqb}
-use lib.ListN.{take}
 use Rattle.models.specs.Rules.{first}
 use Rattle.models.proofs.FirstLaws.{at, positive, first_at, none_more}
-use Rattle.layout.specs.Layout.{events, links}
-use Rattle.recording.specs.Causes.{too_short, kind_unknown, over_limit, wrong_length, header_causes}
+use Rattle.recording.specs.Causes.{too_short, kind_unknown, wrong_length, header_causes}
 use Rattle.recording.proofs.CauseLaws.{over_of, sized_of}
 use Rattle.recording.proofs.causes.header_refusal.Goals as goal
 

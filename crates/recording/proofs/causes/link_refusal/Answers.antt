@@ -7,12 +7,11 @@ use mathlib.Core.Bool.{true}
 use mathlib.Core.List.{List}
 use Prim.Native.Nat.{ℕ}
 use borrow.Author.Tests.{not-false}
-use lib.ListN.{take}
 use Rattle.models.specs.Rules.{first}
 use Rattle.models.proofs.FirstLaws.{at, positive, test_of, first_at, first_fails, none_more}
 use Rattle.layout.specs.Layout.{Sized}
 use Rattle.layout.specs.Chains.{threads_sound}
-use Rattle.reading.specs.Readable.{Chained, Readable}
+use Rattle.reading.specs.Readable.{Chained}
 use Rattle.recording.specs.Causes.{bad_threads, bad_link, unpaired, record_causes, link_causes}
 use Rattle.recording.proofs.CauseLaws.{opposite, chained, readable_of}
 use Rattle.recording.proofs.causes.link_refusal.Goals as goal

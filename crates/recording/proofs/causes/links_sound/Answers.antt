@@ -1,7 +1,6 @@
 -- `causes::links_sound` meets its contract, event by event.
 use mathlib.Core.Bool.{not}
 use mathlib.Core.Path.{ap}
-use Prim.Native.Nat.{◌-◌}
 use native.Mathlib.Omega.{arith}
 use Rattle.layout.proofs.EachLaws.{passed_none, passed_more, passed_fails, passed_all}
 use Rattle.recording.proofs.causes.links_sound.Goals as goal

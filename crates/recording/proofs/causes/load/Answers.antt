@@ -1,10 +1,6 @@
 -- `causes::load` meets its contract: the causes of one part after the other, and the header where none applies.
 -- The file, and that the causes of the parts tried so far do not apply.
-use mathlib.Core.Path.{◌≡◌, sym, ◌∙◌}
-use mathlib.Core.List.{List}
-use Prim.Native.Nat.{ℕ}
-use Rattle.models.specs.Rules.{first}
-use Rattle.recording.specs.Causes.{header_causes, record_causes}
+use mathlib.Core.Path.{sym, ◌∙◌}
 use Rattle.recording.proofs.CauseLaws.{refused_header, refused_records, refused_links, load_refused, load_loaded, sized_8}
 use Rattle.recording.proofs.causes.load.Goals as goal
 

@@ -1,7 +1,6 @@
 -- `causes::long_thread` meets its contract, thread by thread.
 use mathlib.Core.Path.{◌≡◌, refl, sym, ap, ◌∙◌}
-use mathlib.Core.Bool.{false}
-use Prim.Native.Nat.{ℕ, ◌-◌}
+use Prim.Native.Nat.{ℕ}
 use native.Mathlib.Omega.{arith}
 use Rattle.relation.specs.Rel.{some, below}
 use Rattle.relation.proofs.Meaning.{some_complete, mem_below}

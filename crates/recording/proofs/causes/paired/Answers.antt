@@ -1,8 +1,6 @@
 -- `causes::paired` meets its contract, event by event.
 use mathlib.Core.Bool.{not}
 use mathlib.Core.Path.{ap}
-use Prim.Native.Nat.{◌-◌}
-use Rattle.recording.specs.Causes.{paired_at}
 use Rattle.layout.proofs.EachLaws.{passed_none, passed_more, passed_fails, passed_all}
 use Rattle.recording.proofs.causes.paired.Goals as goal
 

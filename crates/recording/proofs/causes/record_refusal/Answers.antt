@@ -2,10 +2,7 @@
 -- The file, and that the causes tried so far do not apply.
 use mathlib.Core.Bool.{not}
 use mathlib.Core.Path.{ap}
-use mathlib.Core.Path.{◌≡◌, refl, sym, ◌∙◌}
-use mathlib.Core.List.{List}
-use Prim.Native.Nat.{ℕ}
-use lib.ListN.{take}
+use mathlib.Core.Path.{refl, sym, ◌∙◌}
 use Rattle.models.specs.Rules.{first}
 use Rattle.models.proofs.FirstLaws.{at, positive, first_at, none_more}
 use Rattle.recording.specs.Causes.{bad_event, record_causes}

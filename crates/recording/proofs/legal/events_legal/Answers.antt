@@ -1,8 +1,6 @@
 -- `legal::events_legal` meets its contract, event by event.
 use mathlib.Core.Bool.{not}
 use mathlib.Core.Path.{ap}
-use Prim.Native.Nat.{◌-◌}
-use Rattle.recording.specs.Causes.{event_legal}
 use Rattle.layout.proofs.EachLaws.{passed_none, passed_more, passed_fails, passed_all}
 use Rattle.recording.proofs.legal.events_legal.Goals as goal
 

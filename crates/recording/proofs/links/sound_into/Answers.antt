@@ -3,10 +3,10 @@ use mathlib.Core.Path.{refl, sym, ◌∙◌}
 use mathlib.Core.Logic.{inl, inr}
 use native.Mathlib.Omega.{arith}
 use lib.Bits.{mask_lt}
-use Rattle.recording.specs.Causes.{link_sound, links_sound_at}
+use Rattle.recording.specs.Causes.{links_sound_at}
 use Rattle.layout.proofs.FieldLaws.{and_yes, and_no}
 use Rattle.recording.proofs.CauseLaws.{sound_readable}
-use Rattle.reading.proofs.LinkLaws.{within_le, readable_lt, row_of_source, HereOf, walk_start, walk_here, walk_on, along_start, along_done, along_fails, along_on, taken_start, taken_with, taken_keep, taken_done}
+use Rattle.reading.proofs.LinkLaws.{within_le, readable_lt, row_of_source, walk_start, walk_here, walk_on, along_start, along_done, along_fails, along_on, taken_start, taken_with, taken_keep, taken_done}
 use borrow.Author.Rules.{rules}
 use Rattle.recording.proofs.links.sound_into.Goals as goal
 

@@ -1,7 +1,6 @@
 -- `grid::closure` meets its contract: one round for each event, row by row.
 use mathlib.Core.Path.{refl, ap, ◌∙◌}
-use mathlib.Core.Logic.{inl, inr}
-use Prim.Native.Nat.{ℕ, ◌-◌}
+use Prim.Native.Nat.{ℕ}
 use native.Mathlib.Omega.{arith}
 use Rattle.relation.specs.Rel.{empty, union, given, plus, below}
 use Rattle.relation.specs.Bits.{edge}

@@ -1,7 +1,5 @@
 -- `grid::column` meets its contract, event by event.
 use mathlib.Core.Path.{sym, ap, ◌∙◌}
-use mathlib.Core.Logic.{inl, inr}
-use Prim.Native.Nat.{◌-◌}
 use Rattle.relation.specs.Rel.{Set, inverse, empty}
 use Rattle.relation.specs.Bits.{edge}
 use Rattle.relation.proofs.SetLaws.{collected_start, collected_with, collected_keep, collected_all}

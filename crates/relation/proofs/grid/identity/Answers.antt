@@ -1,7 +1,5 @@
 -- `grid::identity` meets its contract, row by row.
 use mathlib.Core.Path.{sym, ◌∙◌}
-use mathlib.Core.Logic.{inl, inr}
-use Prim.Native.Nat.{◌-◌}
 use Rattle.relation.specs.Rel.{single, from, identity}
 use Rattle.relation.proofs.SetLaws.{single_only}
 use Rattle.relation.proofs.GridLaws.{chosen_start, chosen_with, chosen_skip, chosen_all}

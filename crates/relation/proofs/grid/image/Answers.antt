@@ -1,5 +1,4 @@
 -- `grid::image` meets its contract, member by member.
-use Prim.Native.Nat.{◌-◌}
 use native.Mathlib.Omega.{arith}
 use Rattle.relation.specs.Bits.{edge}
 use Rattle.relation.proofs.GridLaws.{reached_first, reached_next, reached_all}

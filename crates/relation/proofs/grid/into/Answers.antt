@@ -1,6 +1,5 @@
 -- `grid::into` meets its contract, row by row.
 use mathlib.Core.Path.{refl}
-use Prim.Native.Nat.{◌-◌}
 use Rattle.relation.specs.Rel.{empty, intersection, into}
 use Rattle.relation.specs.Bits.{edge}
 use Rattle.relation.proofs.GridLaws.{mapped_start, mapped_more, mapped_all}

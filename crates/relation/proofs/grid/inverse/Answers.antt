@@ -1,6 +1,5 @@
 -- `grid::inverse` meets its contract, pair by pair.
 use mathlib.Core.Path.{refl, ◌∙◌}
-use Prim.Native.Nat.{◌-◌}
 use native.Mathlib.Omega.{arith}
 use Rattle.relation.specs.Bits.{edge}
 use Rattle.relation.proofs.GridLaws.{turned_none, turned_all, turning_first, turning_next, turning_all}

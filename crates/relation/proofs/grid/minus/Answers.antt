@@ -1,6 +1,5 @@
 -- `grid::minus` meets its contract, row by row.
 use mathlib.Core.Path.{refl}
-use Prim.Native.Nat.{◌-◌}
 use Rattle.relation.specs.Rel.{empty, difference, minus}
 use Rattle.relation.specs.Bits.{edge}
 use Rattle.relation.proofs.GridLaws.{mapped_start, mapped_more, mapped_all}

@@ -1,5 +1,4 @@
 -- `grid::or` meets its contract, row by row.
-use Prim.Native.Nat.{◌-◌}
 use Rattle.relation.specs.Rel.{empty, union, either}
 use Rattle.relation.specs.Bits.{edge}
 use Rattle.relation.proofs.GridLaws.{mapped_start, mapped_more, mapped_all, edge_out}

@@ -1,7 +1,5 @@
 -- `grid::product` meets its contract, row by row.
 use mathlib.Core.Path.{refl, sym, ◌∙◌}
-use mathlib.Core.Logic.{inl, inr}
-use Prim.Native.Nat.{◌-◌}
 use Rattle.relation.specs.Rel.{from, product}
 use Rattle.relation.proofs.GridLaws.{chosen_start, chosen_with, chosen_skip, chosen_all}
 use borrow.Author.Rules.{rules}

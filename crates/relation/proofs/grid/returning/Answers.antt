@@ -1,7 +1,5 @@
 -- `grid::returning` meets its contract, event by event.
 use mathlib.Core.Path.{sym, ◌∙◌}
-use mathlib.Core.Logic.{inl, inr}
-use Prim.Native.Nat.{◌-◌}
 use borrow.Author.Tests.{lt-ltb, le-ltb}
 use Rattle.relation.proofs.SetLaws.{collected_start, collected_with, collected_keep, collected_all}
 use Rattle.relation.proofs.GridLaws.{returning_at, returning_out}

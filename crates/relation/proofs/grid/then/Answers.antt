@@ -1,5 +1,4 @@
 -- `grid::then` meets its contract, row by row.
-use Prim.Native.Nat.{◌-◌}
 use native.Mathlib.Omega.{arith}
 use Rattle.relation.specs.Rel.{compose}
 use Rattle.relation.specs.Bits.{edge}

@@ -1,8 +1,6 @@
 -- `order::order` meets its contract: what is out, followed by the order of what is left, is the order of all.
 -- In each turn the members of what is left are gone through up to the first ready one.
 use mathlib.Core.Path.{◌≡◌, ◌∙◌}
-use mathlib.Core.Logic.{inl, inr}
-use Prim.Native.Nat.{◌-◌}
 use native.Mathlib.Omega.{arith}
 use lib.ListN.{replicate}
 use Rattle.relation.specs.Rel.{inverse, least}

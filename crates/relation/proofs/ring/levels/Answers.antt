@@ -1,7 +1,5 @@
 -- `ring::levels` meets its contract: each row is what one more step reaches.
-use Prim.Native.Nat.{◌-◌}
 use native.Mathlib.Omega.{arith}
-use Rattle.relation.specs.Rel.{none}
 use Rattle.relation.specs.Bits.{edge}
 use Rattle.relation.proofs.GridLaws.{rows_none_of, rows_set}
 use Rattle.relation.proofs.RingLaws.{power_zero, power_suc}

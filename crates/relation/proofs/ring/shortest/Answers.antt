@@ -1,6 +1,4 @@
 -- `ring::shortest` meets its contract: fewer steps are tried first.
-use mathlib.Core.Bool.{false}
-use Prim.Native.Nat.{◌-◌}
 use native.Mathlib.Omega.{arith}
 use borrow.Author.Count.{below_none, below_more}
 use Rattle.relation.proofs.ByteLaws.{bit_out}

@@ -1,6 +1,4 @@
 -- `ring::smallest_at` meets its contract.
-use mathlib.Core.Logic.{inl, inr}
-use Prim.Native.Nat.{◌-◌}
 use native.Mathlib.Omega.{arith}
 use Rattle.relation.proofs.RingLaws.{smallest_one, smallest_new, smallest_old, smallest_done}
 use borrow.Author.Rules.{rules}

@@ -1,5 +1,5 @@
 -- `ring::steps_back` meets its contract: each event but the last leads to the one after it.
-use Prim.Native.Nat.{◌<◌, ◌-◌}
+use Prim.Native.Nat.{◌<◌}
 use Rattle.relation.specs.Bits.{edge}
 use Rattle.relation.specs.Ring.{Levels}
 use Rattle.relation.proofs.RingLaws.{Back}

@@ -1,5 +1,4 @@
 -- `ring::turned` meets its contract, place by place.
-use Prim.Native.Nat.{◌-◌}
 use native.Mathlib.Omega.{arith}
 use Rattle.relation.proofs.RingLaws.{turning_none, turning_more, turning_all, turned_inside}
 use borrow.Author.Rules.{rules}

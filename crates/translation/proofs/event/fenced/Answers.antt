@@ -1,5 +1,4 @@
 -- `event::fenced` meets its contract: no number before the one returned is such a write.
-use Prim.Native.Nat.{◌-◌}
 use Rattle.translation.proofs.EventLaws.{passed_none, passed_more, passed_here, passed_all}
 use borrow.Author.Rules.{rules}
 use Rattle.translation.proofs.event.fenced.Goals as goal

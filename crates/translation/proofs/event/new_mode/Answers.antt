@@ -1,9 +1,5 @@
 -- `event::new_mode` meets its contract, by the class and the mode.
-use mathlib.Core.Path.{◌≡◌}
-use Prim.Native.Nat.{ℕ}
 use native.Mathlib.Omega.{arith}
-use Rattle.translation.specs.Contents.{contents}
-use Rattle.translation.specs.Translate.{kept_or, new_mode}
 use Rattle.translation.proofs.SourceFacts.{sized}
 use Rattle.translation.proofs.EventLaws.{fence_has, event_keeps, mode_stays, mode_five, mode_six}
 use borrow.Author.Rules.{rules}

@@ -1,6 +1,4 @@
 -- `event::strong_below` meets its contract: the count grows with each strong write passed.
-use mathlib.Core.Logic.{inl, inr}
-use Prim.Native.Nat.{◌-◌}
 use native.Mathlib.Omega.{arith}
 use Rattle.translation.proofs.SourceFacts.{sized}
 use Rattle.translation.proofs.EventLaws.{counted_none, counted_yes, counted_no, counted_all}

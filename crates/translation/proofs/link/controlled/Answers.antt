@@ -1,7 +1,7 @@
 -- `link::controlled` meets its contract: after the pair's write, or after the read.
 use native.Mathlib.Omega.{arith}
 use Rattle.translation.proofs.SourceFacts.{sized, limits}
-use Rattle.translation.proofs.LinkRows.{readable, Pair, pair_is, pair_new, pair_controls, read_controls, old_new}
+use Rattle.translation.proofs.LinkRows.{readable, pair_is, pair_new, pair_controls, read_controls, old_new}
 use borrow.Author.Rules.{rules}
 use Rattle.translation.proofs.link.controlled.Goals as goal
 

@@ -1,5 +1,4 @@
 -- `link::links_up_to` meets its contract, type by type.
-use Prim.Native.Nat.{◌-◌}
 use native.Mathlib.Omega.{arith}
 use Rattle.translation.proofs.LinkRows.{links_start, links_more, links_few, links_all}
 use borrow.Author.Rules.{rules}

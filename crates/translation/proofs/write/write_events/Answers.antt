@@ -1,6 +1,5 @@
 -- `write::write_events` meets its contract, event by event.
 use mathlib.Core.Path.{ap, ap₂, ◌∙◌}
-use Prim.Native.Nat.{◌-◌}
 use native.Mathlib.Omega.{arith}
 use lib.ListN.{length}
 use Rattle.translation.specs.Encode.{chained}

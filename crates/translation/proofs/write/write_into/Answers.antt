@@ -1,5 +1,4 @@
 -- `write::write_into` meets its contract, type by type.
-use Prim.Native.Nat.{◌-◌}
 use native.Mathlib.Omega.{arith}
 use Rattle.translation.proofs.WriteLaws.{into_none, into_room, into_more, into_all}
 use borrow.Author.Rules.{rules}

@@ -1,5 +1,4 @@
 -- `write::write_links` meets its contract, event by event.
-use Prim.Native.Nat.{◌-◌}
 use native.Mathlib.Omega.{arith}
 use Rattle.translation.proofs.Bounds.{most_events_lem}
 use Rattle.translation.proofs.LinkRows.{event_counted}

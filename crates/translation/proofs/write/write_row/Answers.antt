@@ -1,5 +1,4 @@
 -- `write::write_row` meets its contract, source by source.
-use Prim.Native.Nat.{◌-◌}
 use native.Mathlib.Omega.{arith}
 use Rattle.translation.proofs.WriteLaws.{row_first, row_room, row_next, row_all}
 use Rattle.translation.proofs.write.write_row.Goals as goal

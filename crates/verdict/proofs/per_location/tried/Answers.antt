@@ -6,7 +6,7 @@ use Rattle.relation.specs.Bits.{edge}
 use Rattle.relation.proofs.Walks.{Inside, edge_inside}
 use Rattle.relation.proofs.RingMeaning.{plus_closed}
 use Rattle.models.specs.Graph.{Base}
-use Rattle.models.specs.Term.{Term, eval, fr, frₑ}
+use Rattle.models.specs.Term.{eval, frₑ}
 use Rattle.models.specs.Armv8.{sc_per_loc}
 use Rattle.models.specs.Rules.{per_location}
 use Rattle.verdict.specs.Base.{base_of}

@@ -1,8 +1,6 @@
 -- `rules::unordered` meets its contract. No write before a has an unsettled peer; in a's turn no peer before b is unsettled.
 use mathlib.Core.Path.{refl, sym, subst, ◌∙◌}
-use Prim.Native.Nat.{◌-◌}
 use native.Mathlib.Omega.{arith}
-use borrow.Author.Tests.{not-false, not-true}
 use Rattle.relation.specs.Rel.{Rel}
 use Rattle.relation.specs.Bits.{edge}
 use Rattle.relation.proofs.SetLaws.{seeking_first, seeking_next}

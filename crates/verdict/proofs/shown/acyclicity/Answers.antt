@@ -1,8 +1,7 @@
 -- `shown::acyclicity` meets its contract: a ring of the order, or the events in order.
 -- The events that the order leads back to themselves.
-use mathlib.Core.Path.{◌≡◌, ap, ap₂, subst, ◌∙◌}
+use mathlib.Core.Path.{ap, ap₂, subst, ◌∙◌}
 use Rattle.relation.specs.Rel.{Rel, Set, diagonal, plus, nodes}
-use Rattle.relation.specs.Bits.{bit, edge}
 use Rattle.relation.specs.Order.{order}
 use Rattle.relation.proofs.Walks.{Inside, edge_inside}
 use Rattle.verdict.specs.Shown.{Says}

@@ -1,13 +1,10 @@
 -- `shown::completeness` meets its contract: what the searches for rules 1 and 2 find or do not find.
 -- The base that the arguments hold, and the way back to them.
-use mathlib.Core.Path.{◌≡◌, refl, ap, ◌∙◌}
-use Rattle.relation.specs.Rel.{least, nodes}
-use Rattle.relation.specs.Bits.{bit}
-use Rattle.models.specs.Graph.{Base}
-use Rattle.models.specs.Rules.{Model, first, unread, unordered, failures}
+use mathlib.Core.Path.{refl, ap, ◌∙◌}
+use Rattle.relation.specs.Rel.{least}
+use Rattle.models.specs.Rules.{first, failures}
 use Rattle.models.proofs.FirstLaws.{at}
 use Rattle.verdict.specs.Base.{base_of}
-use Rattle.verdict.specs.Shown.{FirstPair, Hold}
 use Rattle.verdict.proofs.ShownLaws.{event_found, event_none, pair_none, pair_bounds, next_rule, tried_none, tried_1, tried_2}
 use Rattle.verdict.proofs.shown.completeness.Goals as goal
 
