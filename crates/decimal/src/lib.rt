@@ -1,5 +1,7 @@
 // Numbers in decimal, as bytes in ASCII.
 
+#![tactic(auto)]
+
 ghost use Rattle.std.specs.Prelude.{◌≡◌, ◌≤◌};
 ghost use Rattle.decimal.specs.Decimal.{aligned, column};
 

@@ -1,6 +1,8 @@
 // Filling an output that a caller lends: bytes go to its start, and later bytes stay. Where it is shorter than the bytes the call is refused
 // with 12 before anything is written.
 
+#![tactic(auto)]
+
 ghost use Rattle.std.specs.Prelude.{◌≡◌, ◌+◌, ◌≤◌, length};
 ghost use Rattle.output.specs.Output.{placed, Fills};
 

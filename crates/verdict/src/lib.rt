@@ -2,6 +2,8 @@
 // what the rules forbid that every model has, and the checks of the rules, in order, with what is shown of the first broken one.
 // The rules are those of `models`. Nothing here knows a model; `per_location` serves every one whose rule 3 is SC-per-location.
 
+#![tactic(auto)]
+
 pub mod base;
 pub mod per_location;
 pub mod rules;

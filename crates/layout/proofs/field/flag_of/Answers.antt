@@ -1,0 +1,8 @@
+-- `field::flag_of` meets its contract.
+use Rattle.layout.specs.Decode.{decode}
+use borrow.Author.Rules.{rules}
+use Rattle.layout.proofs.field.flag_of.Goals as goal
+
+pub returns : goal.returns
+unfolding decode
+returns c = search rules

@@ -1,0 +1,15 @@
+-- `graph::sources_of` meets its contract.
+use mathlib.Core.Path.{sym, ◌∙◌}
+use borrow.Author.Tests.{not-true, not-false}
+use Rattle.layout.proofs.FieldLaws.{recorded_bounds}
+use Rattle.reading.proofs.GraphLaws.{link_none}
+use Rattle.reading.proofs.graph.sources_of.Goals as goal
+
+pub returns-then-not-is_recorded : goal.returns-then-not-is_recorded
+returns-then-not-is_recorded c = link_none _ _ _ _ c.none.ensures (sym c.is_recorded.ensures ∙ c.if-not-is_recorded.true)
+
+pub sources-requires : goal.sources-requires
+sources-requires c =
+    let pre = c.requires in
+    let first = recorded_bounds _ _ (sym c.is_recorded.ensures ∙ c.if-not-is_recorded.false) in
+    (pre.sized, first.0, first.1, pre.chains _ first.0 first.1)
