@@ -1,5 +1,7 @@
 // The ARMv8 verdict over the base of an execution graph: the rules of `models` and what is shown of them.
 
+#![tactic(auto)]
+
 mod ob;
 pub mod why;
 

@@ -1,5 +1,7 @@
 // The clauses of a relation as grids, and the steps of a ring with the numbers of their clauses.
 
+#![tactic(auto)]
+
 ghost use Rattle.std.specs.Prelude.{◌≡◌, List, [], map, ◌<◌, ◌≤◌, length, take};
 ghost use Rattle.relation.specs.Rel.{nodes};
 ghost use Rattle.relation.specs.Bits.{edge};

@@ -1,5 +1,7 @@
 // The execution of a loaded recording as arrays: its sets as rows, its relations as grids, each at the place that `verdict` gives it.
 
+#![tactic(auto)]
+
 ghost use Rattle.std.specs.Prelude.{◌≡◌};
 ghost use Rattle.relation.specs.Bits.{bit, edge};
 ghost use Rattle.relation.specs.Rel.{nodes};

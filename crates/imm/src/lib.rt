@@ -1,5 +1,7 @@
 // The IMM verdict over the base of an execution graph: the rules of `models` and what is shown of them.
 
+#![tactic(auto)]
+
 mod ar;
 mod hb;
 pub mod why;

@@ -1,5 +1,7 @@
 // The judgement of a file as a whole: the verdicts of all models, the lines that the judge prints, and the page.
 
+#![tactic(auto)]
+
 pub mod page;
 
 ghost use Rattle.std.specs.Prelude.{◌≡◌, List, ◌++◌, ℕ, ◌+◌, ◌≤◌, take};

@@ -1,6 +1,8 @@
 // The lines that the judge prints, as bytes: a line is made in a text.
 // The line is that of specs/Lines.antt; nothing is assumed of a verdict but that it shows at most 64 events.
 
+#![tactic(auto)]
+
 ghost use Rattle.std.specs.Prelude.{◌≡◌, [], ◌∷◌, map, ◌+◌, ◌*◌, ◌≤◌, length, take};
 ghost use Rattle.decimal.specs.Decimal.{decimal};
 ghost use Rattle.lines.specs.Lines.{model_word, spaced, line_of};
@@ -9,7 +11,7 @@ ghost use Rattle.lines.specs.Put.{bytes, Room, Put};
 use verdict::{Answer, Verdict};
 
 // The model that a line is of: IMM or x86-TSO on a source recording, ARMv8 on a chip recording.
-#[derive(Drop)]
+#[derive(Clone, Copy)]
 pub enum Model {
     Source,
     Chip,
@@ -17,7 +19,7 @@ pub enum Model {
 }
 
 // Bytes: the first len of at.
-#[derive(Drop)]
+#[derive(Clone, Copy)]
 pub struct Text {
     pub at: [u8; 320],
     pub len: usize,

@@ -76,6 +76,7 @@ all_pass (row ∷ rows) = passes row && all_pass rows
 
 pub passes_at : (row : Row) (rows : List Row) → all_pass rows ≡ true → Memᴰ row rows → passes row ≡ true
 unfolding all_pass
+passes_at row [] p x'' = elim x'' [ ]
 passes_at row (x ∷ rows) p (Memᴰ.head e) = ap passes e ∙ and_left (passes x) (all_pass rows) p
 passes_at row (x ∷ rows) p (Memᴰ.tail m) = passes_at row rows (and_right (passes x) (all_pass rows) p) m
 

@@ -1,5 +1,7 @@
 // The printed page of a recording: a block of columns for each thread, and a line for each event in the order of its chain.
 
+#![tactic(auto)]
+
 pub mod block;
 pub mod table;
 pub mod write;

@@ -1,5 +1,7 @@
 // Recordings: loading a file exactly when no cause of refusal applies.
 
+#![tactic(auto)]
+
 pub mod causes;
 pub mod legal;
 pub mod links;

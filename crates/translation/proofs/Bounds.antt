@@ -27,6 +27,7 @@ use Rattle.translation.proofs.EncodedLinks.{LinksFit}
 use Rattle.translation.proofs.SourceFacts.{limits, loads, says, link_source, link_target, flagged_decoded}
 
 pub mem_among : (x : ℕ) (l : List ℕ) → Memᴰ x l → among x l ≡ true
+mem_among x [] x'' = elim x'' [ ]
 mem_among x (y ∷ l) (Memᴰ.head e) = among_here x y l e
 mem_among x (y ∷ l) (Memᴰ.tail m) = among_there x y l (mem_among x l m)
 

@@ -1,5 +1,7 @@
 // The translation of a source recording to a chip recording, byte by byte.
 
+#![tactic(auto)]
+
 pub mod event;
 pub mod link;
 pub mod write;

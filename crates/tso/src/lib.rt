@@ -1,5 +1,7 @@
 // The x86-TSO verdict over the base of an execution graph: the rules of `models` and what is shown of them.
 
+#![tactic(auto)]
+
 mod order;
 pub mod why;
 

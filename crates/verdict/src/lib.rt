@@ -13,7 +13,7 @@ ghost use Rattle.std.specs.Prelude.{◌≡◌};
 ghost use Rattle.verdict.specs.Answer.{refuses};
 
 // Refused by the cause of that number; broken by the rule of that number. specs/Answer.antt gives each case its number.
-#[derive(Drop)]
+#[derive(Clone, Copy)]
 pub enum Answer {
     Refused(u8),
     Allowed,
@@ -21,7 +21,7 @@ pub enum Answer {
 }
 
 // An answer and the events that are shown: the first len of at.
-#[derive(Drop)]
+#[derive(Clone, Copy)]
 pub struct Verdict {
     pub answer: Answer,
     pub at: [u8; 64],

@@ -1,5 +1,7 @@
 // The verdict of each model on a file's bytes, and the steps of the ring that it shows: one function for all models, by the model.
 
+#![tactic(auto)]
+
 ghost use Rattle.std.specs.Prelude.{◌≡◌, List, ℕ, length, take};
 ghost use Rattle.models.specs.Armv8.{sc_per_loc_clauses};
 ghost use Rattle.models.specs.Why.{clauses_of};

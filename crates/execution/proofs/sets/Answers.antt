@@ -1,0 +1,70 @@
+-- `sets` meets its contract, place by place.
+use mathlib.Core.Path.{refl, ap₂, ◌∙◌}
+use Rattle.relation.specs.Rel.{union}
+use Rattle.models.specs.Recording.{event, acquire_fence, release_fence, R, W, F, Racq, Rex, Wrel, Wstrong, Facq, Frel, Fsc, Fld, Fsy, Fisb}
+use Rattle.layout.specs.Decode.{decode}
+use Rattle.recording.proofs.Accepted.{sized}
+use Rattle.reading.proofs.SortLaws.{all_recorded, class_recorded, sorted_class, sorted_writes, sorted_mode, sorted_flag, union_three}
+use borrow.Author.Rules.{rules}
+use Rattle.execution.proofs.sets.Goals as goal
+
+pub sorted-reads-requires : goal.sorted-reads-requires
+sorted-reads-requires c =
+    (sized _ c.requires, search rules, class_recorded _ _ c.recorded-recorded.ensures _ c.sorted-classes.ensures 1 (search rules))
+
+pub sorted-exclusive-requires : goal.sorted-exclusive-requires
+sorted-exclusive-requires c =
+    (sized _ c.requires, search rules, class_recorded _ _ c.recorded-recorded.ensures _ c.sorted-classes.ensures 1 (search rules))
+
+pub sorted-writes-requires : goal.sorted-writes-requires
+sorted-writes-requires c =
+    (sized _ c.requires, search rules, class_recorded _ _ c.recorded-recorded.ensures _ c.sorted-classes.ensures 2 (search rules))
+
+pub sorted-strong-requires : goal.sorted-strong-requires
+sorted-strong-requires c =
+    (sized _ c.requires, search rules, class_recorded _ _ c.recorded-recorded.ensures _ c.sorted-classes.ensures 2 (search rules))
+
+pub sorted-fences-requires : goal.sorted-fences-requires
+sorted-fences-requires c =
+    (sized _ c.requires, search rules, class_recorded _ _ c.recorded-recorded.ensures _ c.sorted-classes.ensures 3 (search rules))
+
+pub returns : goal.returns
+unfolding event decode union acquire_fence release_fence
+returns c =
+    let recorded = c.recorded-recorded.ensures in
+    let initial = c.initial-initial.ensures in
+    let fits = sized _ c.requires in
+    let sorted = c.sorted-classes.ensures in
+    let class = sorted_class _ _ recorded _ sorted fits in
+    let mode = sorted_mode _ _ recorded _ sorted fits in
+    let flag = sorted_flag _ _ recorded _ sorted fits in
+    let fence = mode 3 (search rules) _ c.sorted-fences.ensures in
+    let two = c.or-both.ensures ∙ ap₂ union (fence 3 (search rules) (search rules)) (fence 4 (search rules) (search rules)) in
+    record {
+      events = c.or.ensures ∙ ap₂ union initial recorded;
+      initial = initial;
+      named = elim [
+        | R ↦ class 1 (search rules) refl
+        | W ↦ sorted_writes _ _ recorded _ sorted fits _ _ initial c.or-2.ensures
+        | F ↦ class 3 (search rules) refl
+        | Racq ↦ mode 1 (search rules) _ c.sorted-reads.ensures 1 (search rules) (search rules)
+        | Rex ↦ flag 1 (search rules) _ c.sorted-exclusive.ensures
+        | Wrel ↦ mode 2 (search rules) _ c.sorted-writes.ensures 2 (search rules) (search rules)
+        | Wstrong ↦ flag 2 (search rules) _ c.sorted-strong.ensures
+        | Facq ↦ union_three _ _ _ _ _ _ c.or-3.ensures (fence 1 (search rules) (search rules)) two
+        | Frel ↦ union_three _ _ _ _ _ _ c.or-4.ensures (fence 2 (search rules) (search rules)) two
+        | Fsc ↦ fence 4 (search rules) (search rules)
+        | Fld ↦ fence 5 (search rules) (search rules)
+        | Fsy ↦ fence 6 (search rules) (search rules)
+        | Fisb ↦ fence 7 (search rules) (search rules)
+      ];
+    }
+
+pub initial-initial-requires : goal.initial-initial-requires
+initial-initial-requires c = search (rules, sized)
+
+pub recorded-recorded-requires : goal.recorded-recorded-requires
+recorded-recorded-requires c = search (rules, sized)
+
+pub sorted-classes-requires : goal.sorted-classes-requires
+sorted-classes-requires c = search (rules, sized, all_recorded)

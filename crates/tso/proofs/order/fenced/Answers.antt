@@ -1,0 +1,10 @@
+-- `order::fenced` meets its contract: its clauses, call by call.
+use mathlib.Core.Path.{refl}
+use Rattle.models.specs.Term.{eval}
+use Rattle.verdict.proofs.TermLaws.{terms}
+use Rattle.clause.proofs.StepLaws.{held_each, arrays}
+use Rattle.tso.proofs.order.fenced.Goals as goal
+
+pub returns : goal.returns
+unfolding eval
+returns c = λ B n f p. held_each 2 refl (search (arrays, terms) depth 12)

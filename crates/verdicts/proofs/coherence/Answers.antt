@@ -1,0 +1,11 @@
+-- `coherence` meets its contract, by the model.
+use Rattle.verdicts.proofs.coherence.Goals as goal
+
+pub returns-in-Source : goal.returns-in-Source
+returns-in-Source c = rw c.in-Source.is c.coherence.ensures
+
+pub returns-in-Chip : goal.returns-in-Chip
+returns-in-Chip c = rw c.in-Chip.is (c.per_location.ensures _)
+
+pub returns-in-Tso : goal.returns-in-Tso
+returns-in-Tso c = rw c.in-Tso.is (c.per_location-in-Tso.ensures _)

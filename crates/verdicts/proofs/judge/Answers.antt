@@ -1,0 +1,11 @@
+-- `judge` meets its contract, by the model.
+use Rattle.verdicts.proofs.judge.Goals as goal
+
+pub returns-in-Source : goal.returns-in-Source
+returns-in-Source c = rw c.in-Source.is c.judge.ensures
+
+pub returns-in-Chip : goal.returns-in-Chip
+returns-in-Chip c = rw c.in-Chip.is c.judge-in-Chip.ensures
+
+pub returns-in-Tso : goal.returns-in-Tso
+returns-in-Tso c = rw c.in-Tso.is c.judge-in-Tso.ensures
