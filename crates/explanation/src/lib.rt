@@ -1,5 +1,7 @@
 // What the program why prints of a file: the judge's lines, and under each line with a ring a line a step.
 
+#![tactic(auto)]
+
 pub mod step;
 
 ghost use Rattle.std.specs.Prelude.{◌≡◌, List, ◌++◌, ℕ, ◌+◌, ◌*◌, ◌≤◌, length, take};

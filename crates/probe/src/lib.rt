@@ -1,6 +1,8 @@
 // The probe's library: the calls that it offers to firmware, on numbers and slices, with C names and no condition on their arguments.
 // Every answer has one coding, `coded` of specs/Calls.antt.
 
+#![tactic(auto)]
+
 mod why;
 
 ghost use Rattle.std.specs.Prelude.{◌≡◌, [], ◌∷◌, ℕ, ◌≤◌};

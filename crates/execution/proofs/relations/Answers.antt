@@ -8,12 +8,11 @@ use borrow.Author.Rules.{rules}
 use Rattle.execution.proofs.relations.Goals as goal
 
 pub coherence-requires : goal.coherence-requires
-coherence-requires c =
-    (
-      sized _ c.requires,
-      links_of c.rows_by_type-rows.ensures 2 (omega arith) (omega arith) c.inverse-2.ensures,
-      c.same_location-location.ensures,
-    )
+coherence-requires c = (
+  sized _ c.requires,
+  links_of c.rows_by_type-rows.ensures 2 (omega arith) (omega arith) c.inverse-2.ensures,
+  c.same_location-location.ensures,
+)
 
 pub control-requires : goal.control-requires
 control-requires c =

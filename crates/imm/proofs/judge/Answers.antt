@@ -103,6 +103,6 @@ returns c =
     let third = fourth.before.before.before.before.before.before in
     let B : Base = base_of c.args.sets c.args.relations in
     let held =
-      c.clauses-clauses.ensures c.and-poloc.ensures c.minus-rfe.ensures c.and-rfi.ensures c.minus-coe.ensures (hb_is third) (eco_is third) in
+    c.clauses-clauses.ensures c.and-poloc.ensures c.minus-rfe.ensures c.and-rfi.ensures c.minus-coe.ensures (hb_is third) (eco_is third) in
     c.acyclicity.ensures IMM B (steps B) (closing B) ((tried_4 fourth).holds c.if-broken-ne0.false)
     (held_union 14 ar_clauses B _ held ar (ar_opened nodes B) _ c.union-ar.ensures) refl

@@ -8,8 +8,7 @@ pub loop-i-init : goal.loop-i-init
 loop-i-init c = (search rules, numbers_none _ _ (search rules))
 
 pub loop-i-preserved : goal.loop-i-preserved
-loop-i-preserved c =
-    (
+loop-i-preserved c = (
   search rules,
   numbers_more _ c.args.at _ _ _ c.loop-i.invariant.1 (search rules)
       c.put_number-z.ensures.put c.put_number-z.ensures.short,

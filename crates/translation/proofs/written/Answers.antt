@@ -23,23 +23,21 @@ pub header-header-requires : goal.header-header-requires
 header-header-requires c = (c.requires, c.new_events-n.ensures.0, (c.ends-ends.ensures.upto _ (omega arith)))
 
 pub write_events-requires : goal.write_events-requires
-write_events-requires c =
-    (
-      c.requires,
-      c.ends-ends.ensures,
-      c.new_events-n.ensures.0,
-      events_room _ _ _ _ _ c.if-out-length.false (c.put.ensures ∙ ap (placed _ 0) c.header-header.ensures),
-    )
+write_events-requires c = (
+  c.requires,
+  c.ends-ends.ensures,
+  c.new_events-n.ensures.0,
+  events_room _ _ _ _ _ c.if-out-length.false (c.put.ensures ∙ ap (placed _ 0) c.header-header.ensures),
+)
 
 pub write_links-requires : goal.write_links-requires
-write_links-requires c =
-    (
-      c.ends-ends.ensures,
-      record { source = c.requires; grid = c.ctrl-ctrl.ensures },
-      c.new_events-n.ensures.0,
-      links_part _ _ _ _ [] _ _ c.requires c.new_events-n.ensures.0 (c.ends-ends.ensures.upto _ (omega arith)) c.if-out-length.false
-          (c.put.ensures ∙ ap (placed _ 0) c.header-header.ensures) c.write_events.ensures,
-    )
+write_links-requires c = (
+  c.ends-ends.ensures,
+  record { source = c.requires; grid = c.ctrl-ctrl.ensures },
+  c.new_events-n.ensures.0,
+  links_part _ _ _ _ [] _ _ c.requires c.new_events-n.ensures.0 (c.ends-ends.ensures.upto _ (omega arith)) c.if-out-length.false
+      (c.put.ensures ∙ ap (placed _ 0) c.header-header.ensures) c.write_events.ensures,
+)
 
 pub returns : goal.returns
 returns c =

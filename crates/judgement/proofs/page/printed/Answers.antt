@@ -6,8 +6,11 @@ use Rattle.judgement.proofs.page.printed.Goals as goal
 
 pub returns-in_default : goal.returns-in_default
 returns-in_default c =
-    record { prints = refusal_text _ _ _ _ c.load-answer.ensures _ _ _ _ c.in_default.is c.number.ensures c.refused.ensures.0 c.refused.ensures.1
-          (c.line-in_default.ensures.line ∙ c.line.ensures.line); bounded = c.line-in_default.ensures.bounded }
+    record {
+      prints = refusal_text _ _ _ _ c.load-answer.ensures _ _ _ _ c.in_default.is c.number.ensures c.refused.ensures.0 c.refused.ensures.1
+          (c.line-in_default.ensures.line ∙ c.line.ensures.line);
+      bounded = c.line-in_default.ensures.bounded;
+    }
 
 pub loaded-requires : goal.loaded-requires
 loaded-requires c = loaded_side _ _ _ _ c.load-answer.ensures c.in-Loaded.is c.if-source.true

@@ -10,8 +10,7 @@ overflow_cast-result c =
     omega (arith, c.shared_slice_known-2-1.given (8 + 8 * c.events-n.result + 4 * (c.args.m - 1) + c.args.k))
 
 pub returns : goal.returns
-returns c =
-    (
-      ap (λ (n : ℕ). get_or c.args.file.now (8 + 8 * n + 4 * (c.args.m - 1) + c.args.k) 0) c.events-n.ensures.0,
-      omega (arith, c.shared_slice_known-2-1.given (8 + 8 * c.events-n.result + 4 * (c.args.m - 1) + c.args.k)),
-    )
+returns c = (
+  ap (λ (n : ℕ). get_or c.args.file.now (8 + 8 * n + 4 * (c.args.m - 1) + c.args.k) 0) c.events-n.ensures.0,
+  omega (arith, c.shared_slice_known-2-1.given (8 + 8 * c.events-n.result + 4 * (c.args.m - 1) + c.args.k)),
+)

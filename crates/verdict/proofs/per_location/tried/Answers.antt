@@ -34,8 +34,8 @@ returns-then-incoherent-ne0 c =
     let closed = holds B (per_location t).coherent (is_plus c.closure.ensures (given s)) in
     let holds_2 : Hold 2 (per_location t) B = (c.completeness-incomplete.ensures (per_location t) (ring B) (ring B)).holds c.if-incomplete-ne0.false in
     let three : Tried 3 (ring B) (ring B) (per_location t) B c.coherence-incoherent.result =
-      c.coherence-incoherent.ensures (per_location t) B (ring B) (ring B) holds_2 (c.diagonal-returning.ensures ∙ ap diagonal closed) s s
-          (λ x h. (x, plus_closed _ inside x h)) in
+    c.coherence-incoherent.ensures (per_location t) B (ring B) (ring B) holds_2 (c.diagonal-returning.ensures ∙ ap diagonal closed) s s
+    (λ x h. (x, plus_closed _ inside x h)) in
     tried_broken _ _ _ _ _ 3 4 c.if-incoherent-ne0.true three
 
 -- Rule 4.
@@ -49,7 +49,7 @@ returns c =
     let closed = holds B (per_location t).coherent (is_plus c.closure.ensures (given s)) in
     let holds_2 : Hold 2 (per_location t) B = (c.completeness-incomplete.ensures (per_location t) (ring B) (ring B)).holds c.if-incomplete-ne0.false in
     let three : Tried 3 (ring B) (ring B) (per_location t) B c.coherence-incoherent.result =
-      c.coherence-incoherent.ensures (per_location t) B (ring B) (ring B) holds_2 (c.diagonal-returning.ensures ∙ ap diagonal closed) s s
-          (λ x h. (x, plus_closed _ inside x h)) in
+    c.coherence-incoherent.ensures (per_location t) B (ring B) (ring B) holds_2 (c.diagonal-returning.ensures ∙ ap diagonal closed) s s
+    (λ x h. (x, plus_closed _ inside x h)) in
     c.atomicity.ensures (per_location t) B (ring B) (ring B) (three.holds c.if-incoherent-ne0.false) refl
     (holds B frₑ (search terms)) c.minus-2.ensures
