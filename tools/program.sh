@@ -2,6 +2,7 @@
 # A script that sources this has set root, the repository's folder, and name, the program's name, which starts its messages. It has a
 # function usage that prints its help.
 
+program=$root/crates/$name/out/$name
 work=$(mktemp -d)
 trap 'rm -rf "$work"' EXIT
 
@@ -52,66 +53,77 @@ must_be_readable() {
 }
 
 # take FILE COPY: copies FILE, or standard input for -, as far as the program reads, which is 1,413 bytes. So a read that fails is
-# found here: the program takes it for the end of its input.
+# found here, before the program runs on any file.
 take() {
   { if [ "$1" = - ]; then head -c 1413; else head -c 1413 <"$1"; fi; } >"$2" 2>"$work/said" || fail 2 "$1: cannot be read: $(reason)"
 }
 
-# plan PROVED: how many crates of this repository the program stands on, with its own, and on a second line those that come next: not
-# among PROVED, but all below them are. crates.txt lists the crates lowest first.
+# plan LAST: how many crates of this repository the program stands on, with its own; on a second line how many of them are proved where LAST
+# was the last to be, none where it is empty; and on a third those that come next: not proved, but all below them are. crates.txt lists the
+# crates lowest first, and rt proves those of a program in that order.
 plan() {
-  awk -v program="$name" -v proved=" $1 " '
-    { sub(/#.*/, ""); split($0, parts, ":"); gsub(/[ \t]/, "", parts[1]) }
-    parts[1] != "" { order[++count] = parts[1]; needs[parts[1]] = parts[2] }
+  awk -v program="$name" -v last="$1" '
+    { sub(/#.*/, ""); split($0, parts, ":"); split(parts[1], words, " ") }
+    words[1] != "" { order[++count] = words[1]; needs[words[1]] = parts[2] }
     END {
       wanted[program]
       for (i = count; i > 0; i--) if (order[i] in wanted) {
         total++
-        open = !index(proved, " " order[i] " ")
         split(needs[order[i]], below, " ")
-        for (k in below) {
-          wanted[below[k]]
-          if (below[k] in needs && !index(proved, " " below[k] " ")) open = 0
-        }
-        if (open) next_ones = order[i] (next_ones == "" ? "" : ", ") next_ones
+        for (k in below) wanted[below[k]]
       }
-      print total "\n" next_ones
+      for (i = 1; i <= count && last != ""; i++) if (order[i] in wanted) {
+        proved[order[i]]
+        done++
+        if (order[i] == last) break
+      }
+      for (i = 1; i <= count; i++) if (order[i] in wanted && !(order[i] in proved)) {
+        open = 1
+        split(needs[order[i]], below, " ")
+        for (k in below) if (below[k] in needs && !(below[k] in proved)) open = 0
+        if (open) next_ones = next_ones (next_ones == "" ? "" : ", ") order[i]
+      }
+      print total "\n" done + 0 "\n" next_ones
     }' "$root/crates.txt"
 }
 
-# progress < what rt prints: says of each crate when it is proved and which come next, and nothing of one that was proved before.
+# progress < what rt prints: says of each crate when it is proved, in how many seconds, and which come next, and nothing of one that was
+# proved before.
 progress() {
-  local line crate total next proved= count=0
+  local line crate= total count next since=$SECONDS
   while IFS= read -r line; do
-    case $line in "rt: "*" proved ("*) ;; *) continue ;; esac
-    crate=${line#rt: } crate=${crate%% *} proved="$proved $crate" count=$((count + 1))
-    case $line in *"(unchanged "*) continue ;; esac
-    { read -r total; read -r next; } < <(plan "$proved")
-    say "proved $crate, $count of $total crates ${line##* proved }${next:+; next: $next}"
-    : >"$work/proved"
+    case $line in
+      "crate "*": modules "*) crate=${line#crate } crate=${crate%%:*} ;;
+      "logic=proved "*)
+        { read -r total; read -r count; read -r next; } < <(plan "$crate")
+        say "proved $crate, $count of $total crates ($((SECONDS - since)) s)${next:+; next: $next}"
+        since=$SECONDS
+        : >"$work/proved"
+        ;;
+    esac
   done
 }
 
-# Proves and builds the program where something changed since it was built.
+# Proves and builds the program where something changed since it was built. rt runs it then, here on an empty input.
 prove() {
-  local total next
+  local total count next
   command -v rt >/dev/null || fail 1 "rt, the command of the Rattle kit, is missing, so the program cannot be proved"
-  if [ ! -x "$root/target/bin/$name" ]; then
-    { read -r total; read -r next; } < <(plan "")
+  if [ ! -x "$program" ]; then
+    { read -r total; read -r count; read -r next; } < <(plan "")
     say "proving and building the program on its first use, $total crates, which takes some minutes; first: $next"
   fi
-  if ! (cd "$root" && rt check "$name") 2>&1 | tee "$work/log" | progress || [ ! -x "$root/target/bin/$name" ]; then
+  if ! (cd "$root/crates/$name" && rt run </dev/null) 2>&1 >/dev/null | tee "$work/log" | progress || [ ! -x "$program" ]; then
     tail -n 20 "$work/log" >&2
-    fail 1 "the program is not proved and built; above is the end of what 'rt check $name' printed"
+    fail 1 "the program is not proved and built; above is the end of what 'rt run' printed in crates/$name"
   fi
   [ ! -e "$work/proved" ] || say "ready"
 }
 
-# run_on COPY LEAST: the program on a copy of a file; its output, at least LEAST bytes, goes to the file out. It failed where it wrote to
-# standard error, since its status does not say so.
+# run_on COPY LEAST: the program on a copy of a file; its output, at least LEAST bytes, goes to the file out. It failed where its status
+# says so, and where it wrote to standard error.
 run_on() {
   local status=0
-  "$root/target/bin/$name" <"$1" >"$work/out" 2>"$work/error" || status=$?
+  "$program" <"$1" >"$work/out" 2>"$work/error" || status=$?
   cat "$work/error" >&2
   [ "$status" -eq 0 ] && [ ! -s "$work/error" ] && [ "$(wc -c <"$work/out")" -ge "$2" ]
 }

@@ -1,30 +1,39 @@
-// What the programs share: reading an input, and printing.
+// What the programs share: reading an input, and printing. An input that cannot be read or an output that cannot be written is an error,
+// with which the program ends: it says so on standard error.
 
 #![tactic(auto)]
 
-ghost use Rattle.std.specs.Prelude.{◌≤◌};
+ghost use Rattle.std.specs.Prelude.{◌≤◌, IfOk};
 
+use anyhow::{Context, Result};
 use lines::Text;
 use recording::INPUT;
+use std::io::{Read, Write};
 
-// Reads standard input into the array, until the input ends or the array is full; answers how many bytes were read.
-pub fn read(start: &mut [u8; INPUT]) -> usize
-    ensures { result ≤ 1413 }
+// Reads an input into the array, until the input ends or the array is full; answers how many bytes were read.
+pub fn read<R: Read>(from: &mut R, start: &mut [u8; INPUT]) -> Result<usize>
+    ensures { IfOk result (λ n. n ≤ 1413) }
 {
-    io::read_full(libc::STDIN_FILENO, start)
+    let mut n = 0;
+    while n < INPUT {
+        let more = from
+            .read(&mut start[n..])
+            .context("the input cannot be read")?;
+        if more == 0 {
+            break;
+        }
+        n += more;
+    }
+    Ok(n)
 }
 
-// Writes bytes to a descriptor, and says on standard error where that fails; answers whether all were written.
-pub fn write(to: i32, bytes: &[u8]) -> bool {
-    if io::write_all(to, bytes) {
-        return true;
-    }
-    io::write_all(libc::STDERR_FILENO, b"the output cannot be written\n");
-    false
+// Writes bytes, all of them.
+pub fn write<W: Write>(to: &mut W, bytes: &[u8]) -> Result<()> {
+    to.write_all(bytes).context("the output cannot be written")
 }
 
 // Writes a text, as `write` does.
-pub fn print(to: i32, text: Text) -> bool
+pub fn print<W: Write>(to: &mut W, text: Text) -> Result<()>
     requires { text.len ≤ 320 }
 {
     let at = text.at;

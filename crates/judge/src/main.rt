@@ -1,13 +1,15 @@
 // The program judge: reads one recording from standard input and prints its lines.
 
-use libc::STDOUT_FILENO;
+#![tactic(auto)]
+
+use anyhow::Result;
 use recording::INPUT;
 
-fn main() {
+fn main(rt: HostRuntime) -> Result<()> {
     let mut start = [0u8; INPUT];
-    let n = console::read(&mut start);
+    let n = console::read(&mut rt.stdin(), &mut start)?;
     let lines = judgement::of_input(start, n);
     let at = lines.at;
     let len = lines.len;
-    console::write(STDOUT_FILENO, &at[..len]);
+    console::write(&mut rt.stdout(), &at[..len])
 }

@@ -1,38 +1,36 @@
 // Runs the ring and order routines on a few small relations and prints what they answer, a line each.
 
-ghost use Rattle.std.specs.Prelude.{◌≤◌, ◌<◌};
+#![tactic(auto)]
 
-use libc::STDOUT_FILENO;
+ghost use Rattle.std.specs.Prelude.{◌≤◌};
+
 use relation::Sequence;
 use relation::grid::Grid;
 use relation::row::Row;
+use std::io;
 
 // The events found, each behind a space, and a line feed.
-fn show(found: Sequence)
+fn show(rt: &impl Print, found: Sequence) -> io::Result<()>
     requires { found.len ≤ 64 }
 {
-    let at = found.at;
-    let len = found.len;
-    let mut k: usize = 0;
-    while k < len {
-        io::write_all(STDOUT_FILENO, b" ");
-        io::print_decimal(STDOUT_FILENO, at[k] as u64);
-        k += 1;
+    let Sequence { at, len } = found;
+    for event in &at[..len] {
+        print!(rt; " {event}")?;
     }
-    io::write_all(STDOUT_FILENO, b"\n");
+    println!(rt)
 }
 
-fn show_ring(g: Grid, e: Grid) {
-    io::write_all(STDOUT_FILENO, b"ring");
-    show(relation::ring::ring(g, e));
+fn show_ring(rt: &impl Print, g: Grid, e: Grid) -> io::Result<()> {
+    print!(rt; "ring")?;
+    show(rt, relation::ring::ring(g, e))
 }
 
-fn show_order(g: Grid, s: Row) {
-    io::write_all(STDOUT_FILENO, b"order");
-    show(relation::order::order(g, s));
+fn show_order(rt: &impl Print, g: Grid, s: Row) -> io::Result<()> {
+    print!(rt; "order")?;
+    show(rt, relation::order::order(g, s))
 }
 
-fn main() {
+fn main(rt: HostRuntime) -> io::Result<()> {
     let none = relation::grid::empty();
     // a way of three steps, 5 to 3 to 60 to 0
     let way = relation::grid::with(
@@ -40,20 +38,21 @@ fn main() {
         60,
         0,
     );
-    show_ring(way, way);
-    show_order(way, relation::row::all());
+    show_ring(&rt, way, way)?;
+    show_order(&rt, way, relation::row::all())?;
     // the same with a step back from its end
     let round = relation::grid::with(way, 0, 5);
-    show_ring(round, round);
-    show_order(round, relation::row::all());
+    show_ring(&rt, round, round)?;
+    show_order(&rt, round, relation::row::all())?;
     // a shorter way round beside it
     let shorter = relation::grid::with(round, 60, 3);
-    show_ring(shorter, shorter);
+    show_ring(&rt, shorter, shorter)?;
     // closed by a step of another relation
-    show_ring(way, relation::grid::with(none, 60, 5));
+    show_ring(&rt, way, relation::grid::with(none, 60, 5))?;
     // an event that leads to itself
     show_ring(
+        &rt,
         relation::grid::with(way, 63, 63),
         relation::grid::with(way, 63, 63),
-    );
+    )
 }

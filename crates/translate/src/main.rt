@@ -1,21 +1,24 @@
 // The program translate: reads a source recording from standard input and writes the bytes of its translation to standard output.
 // Refused, it writes nothing there, and the line of the refusal to standard error.
 
-use libc::{STDERR_FILENO, STDOUT_FILENO};
+#![tactic(auto)]
+
+use anyhow::Result;
 use lines::Model;
 use output::Filled;
 use recording::INPUT;
 
-fn main() {
+fn main(rt: HostRuntime) -> Result<()> {
     let mut start = [0u8; INPUT];
-    let n = console::read(&mut start);
+    let n = console::read(&mut rt.stdin(), &mut start)?;
     let mut bytes = [0u8; 1320];
     match translation::of_input(start, n, &mut bytes) {
         Filled::Refused(k) => {
-            console::print(STDERR_FILENO, lines::line(Model::Chip, verdict::refused(k)));
+            console::print(
+                &mut rt.stderr(),
+                lines::line(Model::Chip, verdict::refused(k)),
+            )
         }
-        Filled::Written(m) => {
-            console::write(STDOUT_FILENO, &bytes[..m]);
-        }
+        Filled::Written(m) => console::write(&mut rt.stdout(), &bytes[..m]),
     }
 }

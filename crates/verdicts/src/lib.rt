@@ -115,6 +115,8 @@ pub fn loaded(model: Model, file: &[u8]) -> Verdict
 }
 
 // The steps of the ring that the verdict on a recording of the model's side shows, each with the number of its clause.
+// A call of its own, so that its arrays of grids stand on no stack while the verdict is found.
+#[inline(never)]
 pub fn explained(model: Model, file: &[u8], v: Verdict) -> Steps
     requires { LoadsAs (side_for model) file.now × OnRecording (model_for model) (JudgedFor model) (decode file.now) v }
     ensures { Explained (clauses_of (clauses_for model) (rule_of v.answer)) (decode file.now) (ring v) (take (length (ring v)) result) }

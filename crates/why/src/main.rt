@@ -1,13 +1,15 @@
 // The program why: reads one recording from standard input and prints the lines of the judge, and under each line with a ring a line a step.
 
-use libc::STDOUT_FILENO;
+#![tactic(auto)]
+
+use anyhow::Result;
 use recording::INPUT;
 
-fn main() {
+fn main(rt: HostRuntime) -> Result<()> {
     let mut start = [0u8; INPUT];
-    let n = console::read(&mut start);
+    let n = console::read(&mut rt.stdin(), &mut start)?;
     let text = explanation::of_input(start, n);
     let at = text.at;
     let len = text.len;
-    console::write(STDOUT_FILENO, &at[..len]);
+    console::write(&mut rt.stdout(), &at[..len])
 }
