@@ -19,10 +19,18 @@ HEAD = re.compile(r"^\s*((?:(?:pub|abbrev|unfoldable) )*(?:record |data |ruleset
 USE = re.compile(r"^\s*(?:pub )?(?:ghost )?use ([\w.·]+)\.\{([^}]*)\}", re.M)
 KEBAB = re.compile(r"^[A-Za-z][\w'₀-₉′]*(?:-[\w'₀-₉′]+)+$")
 CAMEL = re.compile(r"[a-z0-9][A-Z]")
+# The paper's name of a relation, which stays in comments and documents.
+PAPER = {"po-loc"}
+# Fields that bear the name of a definition, which get no _lem.
+FIELDS = {"most-events": "most_events", "most-locations": "most_locations", "fence-mode": "fence_mode"}
 # first_of is a tactic.
 OTHERWISE = {"first-of": "first_of_pairs"}
 # Lemmas in snake case whose names a definition gets.
 BESIDE = {
+    "crates/layout/specs/Layout.antt": FIELDS,
+    "crates/models/specs/Translated.antt": FIELDS,
+    "crates/recording/proofs/CauseLaws.antt": FIELDS,
+    "crates/translation/proofs/Relates.antt": FIELDS,
     "crates/litmus/proofs/TableProved.antt": {"all_pass": "all_pass_lem"},
     "crates/recording/proofs/Longest.antt": {"too_long": "too_long_lem"},
     "crates/explanation/proofs/NameLaws.antt": {"step_line": "step_line_lem"},
@@ -62,10 +70,23 @@ def respelled(text, names):
         if part[0] != "Rattle" or len(part) < 2 or not os.path.isdir(os.path.join("crates", part[1])):
             others |= {w for item in items.split(",") for w in item.split(" as ")[0].split()}
     names = {old: new for old, new in names.items() if old not in others}
-    return WORD.sub(lambda m: m.group(0) if m.group(0).startswith('"') else names.get(m.group(0), m.group(0)), text)
+
+    def word(m):
+        name = m.group(0)
+        if name.startswith('"') or (name in PAPER and re.match(r"\s*(--|//)", line(m))):
+            return name
+        if name in FIELDS and m.string[: m.start()].endswith("."):
+            return FIELDS[name]
+        return names.get(name, name)
+
+    def line(m):
+        return m.string[m.string.rfind("\n", 0, m.start()) + 1 : m.start()]
+
+    return WORD.sub(word, text)
 
 
 def in_backticks(text, names):
+    names = {old: new for old, new in names.items() if old not in PAPER}
     return re.sub(r"`[^`\n]+`", lambda m: "`" + respelled(m.group(0)[1:-1], names) + "`", text)
 
 

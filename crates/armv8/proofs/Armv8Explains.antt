@@ -1,4 +1,4 @@
--- Each step of a ring that an ARMv8 verdict shows has a clause: rule 3's are po_loc, rf, fr and co, rule 5's are those of ob.
+-- Each step of a ring that an ARMv8 verdict shows has a clause: rule 3's are po-loc, rf, fr and co, rule 5's are those of ob.
 use mathlib.Core.List.{List}
 use Prim.Native.Nat.{ℕ}
 use lib.ListN.{length, take}

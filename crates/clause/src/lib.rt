@@ -145,7 +145,7 @@ pub fn explained(v: Verdict, clauses: Clauses) -> Steps
     steps(at, n, clauses)
 }
 
-// The clauses of SC-per-location, which is rule 3 of ARMv8 and of x86-TSO: po_loc, rf, fr, co
+// The clauses of SC-per-location, which is rule 3 of ARMv8 and of x86-TSO: po-loc, rf, fr, co
 pub fn per_location(po: Grid, loc: Grid, rf: Grid, fr: Grid, co: Grid) -> Clauses
     ensures { (B : Base) → edge po ≡ B.po → edge loc ≡ B.loc → edge rf ≡ B.rf → edge fr ≡ eval nodes term.fr B → edge co ≡ B.co
         → Held 14 sc_per_loc_clauses B result }

@@ -31,7 +31,7 @@ use verdict::Verdict;
 pub const MOST: usize = 9408;
 
 // Bytes: the first len of at.
-#[derive(Drop)]
+#[derive(Clone, Copy)]
 pub struct Explanation {
     pub at: [u8; MOST],
     pub len: usize,

@@ -18,7 +18,7 @@ use relation::row::Row;
 use verdict::base;
 use verdict::base::{Relations, Sets};
 
-// The clauses of bob: po ; [Wrel], [Racq] ; po, po ; [F], [F] ; po, [Wrel] ; po_loc ; [W]
+// The clauses of bob: po ; [Wrel], [Racq] ; po, po ; [F], [F] ; po, [Wrel] ; po-loc ; [W]
 fn bob(writes: Row, fences: Row, racq: Row, wrel: Row, po: Grid, poloc: Grid) -> [Grid; 5]
     ensures { (B : Base) → bit writes ≡ B.set W → bit fences ≡ B.set F → bit racq ≡ B.set Racq → bit wrel ≡ B.set Wrel
         → edge po ≡ B.po → edge poloc ≡ eval nodes po_loc B → Held 5 imm.bob_clauses B result }

@@ -17,7 +17,7 @@ use relation::row::Row;
 use verdict::base;
 use verdict::base::{Relations, Sets};
 
-// rs = [W] ; po_loc ; [W] ∪ [W] ; (po-loc? ; rf ; rmw)*
+// rs = [W] ; po-loc ; [W] ∪ [W] ; (po-loc? ; rf ; rmw)*
 fn rs(events: Row, writes: Row, poloc: Grid, rf: Grid, rmw: Grid) -> Grid
     ensures { (B : Base) → bit events ≡ B.E → bit writes ≡ B.set W
         → edge poloc ≡ eval nodes po_loc B → edge rf ≡ B.rf → edge rmw ≡ B.rmw

@@ -22,7 +22,7 @@ use verdict::Verdict;
 pub const MOST: usize = 960;
 
 // The verdicts on a source file: of IMM, of ARMv8 on its translation, and of x86-TSO.
-#[derive(Drop)]
+#[derive(Clone, Copy)]
 pub struct Verdicts {
     pub source: Verdict,
     pub chip: Verdict,
@@ -30,7 +30,7 @@ pub struct Verdicts {
 }
 
 // The lines of a file: the first len of at.
-#[derive(Drop)]
+#[derive(Clone, Copy)]
 pub struct Lines {
     pub at: [u8; MOST],
     pub len: usize,

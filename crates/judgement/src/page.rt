@@ -14,7 +14,7 @@ use recording::{INPUT, Load, causes};
 use verdict::{Answer, Verdict};
 
 // Bytes: the first len of at.
-#[derive(Drop)]
+#[derive(Clone, Copy)]
 pub struct Page {
     pub at: [u8; MOST],
     pub len: usize,

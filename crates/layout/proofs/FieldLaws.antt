@@ -129,8 +129,8 @@ pub event_small : (f : List ℕ) (e : ℕ) → Sized f → event (decode f) e �
 unfolding event decode
 event_small f e s p =
     elim (or_either (is_initial f e) (is_recorded f e) p) [
-      | inl q ↦ let (a, b) = initial_bounds f e q in omega (arith, s.most_locations_lem)
-      | inr q ↦ let (a, b) = recorded_bounds f e q in omega (arith, s.most_events_lem)
+      | inl q ↦ let (a, b) = initial_bounds f e q in omega (arith, s.most_locations)
+      | inr q ↦ let (a, b) = recorded_bounds f e q in omega (arith, s.most_events)
     ]
 
 pub class_small : (f : List ℕ) (k e : ℕ) → Sized f → of_class (decode f) k e ≡ true → e < 64

@@ -92,8 +92,8 @@ first_initial = 56
 -- What causes 3 and 4 leave of a file: its limits, whatever its side, and its length. Everything below is read within it.
 pub record Sized (f : List ℕ) : Type 0 where
   pub long : length f ≡ full_length f
-  pub most_events_lem : events f ≤ 48
-  pub most_locations_lem : locations f ≤ 8
+  pub most_events : events f ≤ 48
+  pub most_locations : locations f ≤ 8
 
 -- r comes after e, and between them stands no number of an event, where there are n records.
 pub record Following (n e r : ℕ) : Type 0 where

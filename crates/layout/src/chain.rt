@@ -4,7 +4,7 @@ ghost use Rattle.std.specs.Prelude.{◌≡◌, true, List, ℕ, ◌+◌, ◌-◌
 ghost use Rattle.layout.specs.Chains.{next_of, start_of, chain, met, all_met, once_each, Linked, Marked, Followed};
 
 // A position on a chain: the number of a record, or 0 at the end. It is handed on from call to call.
-#[derive(Drop)]
+#[derive(Clone, Copy)]
 pub struct Cursor {
     pub at: usize,
 }

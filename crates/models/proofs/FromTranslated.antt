@@ -304,8 +304,8 @@ module _ {E : Type 0} (S C : Recording E) (l : Loads S) (t : Translated S C) whe
     acquire = λ {a} h. (let r = mode_class S 1 1 a h in mode_intro C 1 1 a (class_to 1 a r) (t.mode a (read_access S a r) ∙ mode_is S 1 1 a h));
     release = λ {a} h. (let w = mode_class S 2 2 a h in mode_intro C 2 2 a (class_to 2 a w) (t.mode a (write_access S a w) ∙ mode_is S 2 2 a h));
     loc = λ {a} {b} h. same_to a b h;
-    fence = λ {a} h. elim (t.fence_mode_lem a h) [ inl k ↦ inl (mode_intro C 3 5 a (class_to 3 a h) k.1) | inr k ↦ inr (mode_intro C 3 6 a (class_to 3 a h) k.1) ];
-    release_fence_lem = λ {a} h. (let x = release_fence_lem S a h in elim (t.fence_mode_lem a x) [ inl k ↦ absurd (release_fence_mode S a h k.0) | inr k ↦ mode_intro C 3 6 a (class_to 3 a x) k.1 ]);
+    fence = λ {a} h. elim (t.fence_mode a h) [ inl k ↦ inl (mode_intro C 3 5 a (class_to 3 a h) k.1) | inr k ↦ inr (mode_intro C 3 6 a (class_to 3 a h) k.1) ];
+    release_fence_lem = λ {a} h. (let x = release_fence_lem S a h in elim (t.fence_mode a x) [ inl k ↦ absurd (release_fence_mode S a h k.0) | inr k ↦ mode_intro C 3 6 a (class_to 3 a x) k.1 ]);
     po_to = po_to;
     po_from = λ {a} {b} p q h. po_from p q h;
     strong = λ {a} s. (t.inserted a, inserted_ld a s, inr (one (next_into a s)), λ b h. inr (inserted_before a b s (po_next S l (strong_uninitial a s) h)));

@@ -62,7 +62,7 @@ module _ {E : Type 0} {G : Graph E} where
       -- Release sequences within an order that holds co, external rf and rmw.
       module _ (decided : (a b : E) → Dec (G.po a b)) {O : E → E → Type 0} (O-co : (a b : E) → G.co a b → O a b)
           (O-rfe : (a b : E) → ⟦ rfₑ ⟧ G a b → O a b) (O-rmw : (a b : E) → G.rmw a b → O a b) where
-        -- Optional po_loc between writes.
+        -- Optional po-loc between writes.
         pub loc_writes : {a b : E} → G.set W a → G.set W b → ⟦ opt po_loc ⟧ G a b → Weak (Plus O) a b
         loc_writes {a} {b} v w l = weak_step (λ h. O-co a b (po_co v w h.1 h.0)) l
 

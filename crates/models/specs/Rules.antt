@@ -20,7 +20,7 @@ pub record Model : Type 0 where
 abbrev pub IMM : Model
 IMM = record { coherent = hb ⨾ opt eco; order = ar }
 
--- Rule 3: po_loc, rf, fr and co together are acyclic. Rule 5: the relation is acyclic.
+-- Rule 3: po-loc, rf, fr and co together are acyclic. Rule 5: the relation is acyclic.
 abbrev pub per_location : Term → Model
 per_location t = record { coherent = sc_per_loc ⁺; order = t }
 

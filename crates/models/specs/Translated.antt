@@ -31,7 +31,7 @@ pub record Translated {E : Type 0} (S C : Recording E) : Type 0 where
   pub read_flag : (e : E) → T (read S e) → C.flag e ≡ S.flag e
   pub write_flag : (e : E) → T (write S e) → C.flag e ≡ 0
   -- "Fence 1 becomes 5; fences 2, 3, 4 become 6", and a source fence has one of these modes.
-  pub fence_mode_lem : (e : E) → T (fence S e) → ((S.mode e ≡ 1) × (C.mode e ≡ 5)) ⊎ (T (release_fence S e) × (C.mode e ≡ 6))
+  pub fence_mode : (e : E) → T (fence S e) → ((S.mode e ≡ 1) × (C.mode e ≡ 5)) ⊎ (T (release_fence S e) × (C.mode e ≡ 6))
   -- "After each strong write a fence of mode 5 is chained in": chains run through the events of C, w is followed by its fence,
   -- the fence by what followed w, and any other event by what followed it.
   pub inserted_class : (w : E) → T (strong_write S w) → C.class (inserted w) ≡ 3

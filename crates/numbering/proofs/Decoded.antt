@@ -32,7 +32,7 @@ module _ (f g : List ℕ) (w : Renumbered f g) where
   to = n.to
 
   few : events f < 56
-  few = omega (arith, (sized f w.loads).most_events_lem)
+  few = omega (arith, (sized f w.loads).most_events)
 
   same_events : events g ≡ events f
   unfolding contents

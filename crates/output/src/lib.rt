@@ -7,7 +7,7 @@ ghost use Rattle.std.specs.Prelude.{◌≡◌, ◌+◌, ◌≤◌, length};
 ghost use Rattle.output.specs.Output.{placed, Fills};
 
 // What a call that fills an output answers: the number of the cause that refused it, or the length written.
-#[derive(Drop)]
+#[derive(Clone, Copy)]
 pub enum Filled {
     Refused(u8),
     Written(usize),

@@ -105,7 +105,7 @@ pub digits_of : (f : List ℕ) (e : ℕ) → refusal f ≡ 0 → 1 ≤ e → e �
     → OneDigit ((decode f).class e) ((decode f).mode e) ((decode f).flag e) ((decode f).location e)
 unfolding event_legal
 digits_of f e loads low high =
-    one_digit (side f) (locations f) _ _ _ ((decode f).value e) (sized f loads).most_locations_lem ((decode f).class e) (legal_event f loads e low high)
+    one_digit (side f) (locations f) _ _ _ ((decode f).value e) (sized f loads).most_locations ((decode f).class e) (legal_event f loads e low high)
 
 -- An array as the list of its entries.
 abbrev entries : List ℕ → ℕ → ℕ → List ℕ

@@ -55,7 +55,7 @@ module _ (f : List ℕ) where
     at_size k t h =
         elim (dec_lt k (length (thread f t))) [
           | yes p ↦ ap length (block_present (decode f) ring k (thread f t) p)
-              ∙ block_size (decode f) ring (get_or (thread f t) k 0) (omega (arith, event_at f loads t k h p, (sized f loads).most_events_lem))
+              ∙ block_size (decode f) ring (get_or (thread f t) k 0) (omega (arith, event_at f loads t k h p, (sized f loads).most_events))
           | no p ↦ ap length (block_absent (decode f) ring k (thread f t) (omega (arith, p)))
         ]
 

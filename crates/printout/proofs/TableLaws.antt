@@ -25,7 +25,7 @@ upto_length f t = length-append (threads_up_to f t) (thread f t)
 module _ (f : List ℕ) (loads : refusal f ≡ 0) where
   -- The events of the first threads are at most 48.
   pub upto_few : (t : ℕ) → t ≤ threads → length (threads_up_to f t) ≤ 48
-  upto_few t h = omega (arith, few_events f (sized f loads) (threads_sound_lem f loads) t h, (sized f loads).most_events_lem)
+  upto_few t h = omega (arith, few_events f (sized f loads) (threads_sound_lem f loads) t h, (sized f loads).most_events)
 
   pub event_at : (t k : ℕ) → t < threads → k < length (thread f t) → (1 ≤ get_or (thread f t) k 0) × (get_or (thread f t) k 0 ≤ events f)
   event_at t k h g = thread_at f (sized f loads) (threads_sound_lem f loads) t h k g

@@ -22,10 +22,10 @@ use Rattle.reading.proofs.EightRows.{Eight, eight_none, eight_keep, eight_set}
 
 -- No number from 64 on is an event's.
 pub recorded_out : (f : List ℕ) → Sized f → (e : ℕ) → 64 ≤ e → is_recorded f e ≡ false
-recorded_out f s e h = is_false (is_recorded f e) (λ p. let (a, b) = recorded_bounds f e p in omega (arith, s.most_events_lem))
+recorded_out f s e h = is_false (is_recorded f e) (λ p. let (a, b) = recorded_bounds f e p in omega (arith, s.most_events))
 
 initial_out : (f : List ℕ) → Sized f → (e : ℕ) → 64 ≤ e → is_initial f e ≡ false
-initial_out f s e h = is_false (is_initial f e) (λ p. let (a, b) = initial_bounds f e p in omega (arith, s.most_locations_lem))
+initial_out f s e h = is_false (is_initial f e) (λ p. let (a, b) = initial_bounds f e p in omega (arith, s.most_locations))
 
 -- What is no event is in no set.
 module _ (f : List ℕ) (e : ℕ) (r : is_recorded f e ≡ false) (i : is_initial f e ≡ false) where

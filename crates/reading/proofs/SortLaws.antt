@@ -115,10 +115,10 @@ sorted_recorded f s k rows all w v h e p = all e (and_left (s e) (holding f k v 
 -- The events of a class: recorded ones by their records, and every initial write has class 2.
 module _ (f : List ℕ) (s : Sized f) where
   recorded_field : (j given e : ℕ) → is_recorded f e ≡ true → field_or f j given e ≡ event_byte f e j
-  recorded_field j given e p = (let (a, b) = recorded_bounds f e p in sym (field_recorded f j given e _ (omega (arith, s.most_events_lem)) refl p))
+  recorded_field j given e p = (let (a, b) = recorded_bounds f e p in sym (field_recorded f j given e _ (omega (arith, s.most_events)) refl p))
 
   disjoint : (e : ℕ) → is_initial f e ≡ true → (b : Bool) → is_recorded f e ≡ b → b ≡ false
-  disjoint e p true q = absurd (let (a, b) = recorded_bounds f e q in omega (arith, s.most_events_lem, (initial_bounds f e p).0))
+  disjoint e p true q = absurd (let (a, b) = recorded_bounds f e q in omega (arith, s.most_events, (initial_bounds f e p).0))
   disjoint e p false q = refl
 
   -- The events whose byte j is x, where an initial write has `given` for it.

@@ -113,7 +113,7 @@ module _ (f : List ℕ) (s : Sized f) (sound : threads_sound f ≡ true) where
         rest = rest;
         ended = subst (λ (y : ℕ). Ended (events f) (next_event f) y rest) (sym e) (thread_ended t h);
         long = l;
-        room = omega (arith, most, front, sum, s.most_events_lem);
+        room = omega (arith, most, front, sum, s.most_events);
         whole = rw (add-one t) whole;
       }
 
@@ -214,7 +214,7 @@ module _ (f : List ℕ) where
   unfolding decode
   next_inside s x y p =
       let (h, g) = recorded_bounds f x (and_left (is_recorded f x) (is_recorded f y) (and_left (is_recorded f x && is_recorded f y) _ p)) in
-      omega (arith, g, s.most_events_lem)
+      omega (arith, g, s.most_events)
 
   po_none : (a : ℕ) → (decode f).next a ≡ empty → product (is_initial f) (is_recorded f) a ≡ (base nodes (decode f)).po a
   unfolding base decode either union product empty
@@ -225,13 +225,13 @@ module _ (f : List ℕ) where
   po_recorded s a p = fun_ext (λ x. ap (λ (c : Bool). (c && is_recorded f x) || plus nodes (decode f).next a x) late)
     where
       late : is_initial f a ≡ false
-      late = (let (h, g) = recorded_bounds f a p in initial_below f a (omega (arith, g, s.most_events_lem)))
+      late = (let (h, g) = recorded_bounds f a p in initial_below f a (omega (arith, g, s.most_events)))
 
   po_step : Sized f → (a b : ℕ) → is_recorded f a ≡ true → is_recorded f b ≡ true → next_event f a ≡ b
       → union ((base nodes (decode f)).po b) (single b) ≡ (base nodes (decode f)).po a
   po_step s a b p q e =
       ap (λ (t : Set). union t (single b)) (po_recorded s b q)
-      ∙ plus_only (decode f).next (next_inside s) a b (next_single a b p q e) (let (h, g) = recorded_bounds f b q in omega (arith, g, s.most_events_lem))
+      ∙ plus_only (decode f).next (next_inside s) a b (next_single a b p q e) (let (h, g) = recorded_bounds f b q in omega (arith, g, s.most_events))
       ∙ sym (po_recorded s a p)
 
 -- The line of all threads, and the event at a place of it.
@@ -302,7 +302,7 @@ module _ {f : List ℕ} {len : ℕ} {at : List ℕ} {j : ℕ} {h : List (List �
         here = drop-cons (lined f) k 0 inside ∙ ap (λ (y : ℕ). y ∷ drop (suc k) (lined f)) same;
         behind = subst (λ (y : ℕ). (y ≡ 0) ⊎ (among y (drop (suc k) (lined f)) ≡ true)) n v.behind;
         next = n;
-        few = w.sized.most_events_lem;
+        few = w.sized.most_events;
       }
 
   module _ {e b : ℕ} (p : Placed f (j - 1) e b) where

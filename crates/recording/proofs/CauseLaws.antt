@@ -193,7 +193,7 @@ limits f e =
 pub sized_of : (f : List ℕ) → over_limit f ≡ false → length f ≡ full_length f → Sized f
 sized_of f e long =
     let w = limits f e in
-    record { long = long; most_events_lem = omega (arith, w.0, most_events_48 (side f)); most_locations_lem = w.1 }
+    record { long = long; most_events = omega (arith, w.0, most_events_48 (side f)); most_locations = w.1 }
 
 -- A test of the numbers below n, one number more.
 pub some_more : (n : ℕ) (s : Set) → some (below n) s ≡ false → s n ≡ false → some (below (n + 1)) s ≡ false

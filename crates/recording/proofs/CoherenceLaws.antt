@@ -58,7 +58,7 @@ module _ (f : List ℕ) (sized : Sized f) where
       elim (step_cases (decode f) a b p) [
         | inl q ↦ q
         | inr q ↦ let (l, h) = recorded_bounds f a r in
-            absurd (false≢true (sym (lt-leb 56 a (omega (arith, h, sized.most_events_lem))) ∙ initial_no f a (omega (arith, h, sized.most_events_lem)) ∙ q.0))
+            absurd (false≢true (sym (lt-leb 56 a (omega (arith, h, sized.most_events))) ∙ initial_no f a (omega (arith, h, sized.most_events)) ∙ q.0))
       ]
 
   steps_target : (x : ℕ) {y : ℕ} → Steps (co_step (decode f)) x y → is_recorded f y ≡ true
@@ -80,11 +80,11 @@ module _ (f : List ℕ) (sized : Sized f) where
     from_small a b p =
         elim (step_cases (decode f) a b p) [
           | inl q ↦ elim (dec_lt a 64) [ yes h ↦ mem_below 64 a h | no h ↦ absurd (false≢true (sym (bit_out (get_or g b _) a (omega (arith, h))) ∙ row_is a b ∙ q)) ]
-          | inr q ↦ mem_below 64 a (omega (arith, ltb-true a _ (and_right (leb 56 a) _ q.0), sized.most_locations_lem))
+          | inr q ↦ mem_below 64 a (omega (arith, ltb-true a _ (and_right (leb 56 a) _ q.0), sized.most_locations))
         ]
 
     into_small : (b a : ℕ) → edge g b a ≡ true → Memᴰ b nodes
-    into_small b a p = let (l, h) = recorded_bounds f b (link_target a b (sym (row_is a b) ∙ p)) in mem_below 64 b (omega (arith, h, sized.most_events_lem))
+    into_small b a p = let (l, h) = recorded_bounds f b (link_target a b (sym (row_is a b) ∙ p)) in mem_below 64 b (omega (arith, h, sized.most_events))
 
     row_step : (a b : ℕ) → edge g b a ≡ true → co_step (decode f) a b ≡ true
     unfolding link co_step

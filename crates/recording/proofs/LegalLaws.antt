@@ -126,4 +126,4 @@ module _ (f : List ℕ) (s : Sized f) (legal_events : each (events f) (event_leg
       ]
 
   pub accesses_located : Located f
-  accesses_located e p = omega (arith, access_location e p, s.most_locations_lem)
+  accesses_located e p = omega (arith, access_location e p, s.most_locations)

@@ -331,7 +331,7 @@ module _ (f : List ℕ) (a : refusal f ≡ 0) where
   loads =
       record {
         initial_write = λ e h. initial_class e (is_true _ h);
-        initial_unrecorded = λ e h g. (let (l, r) = recorded_bounds f e (is_true _ g) in omega (arith, (initial_bounds f e (is_true _ h)).0, (sized f a).most_events_lem));
+        initial_unrecorded = λ e h g. (let (l, r) = recorded_bounds f e (is_true _ g) in omega (arith, (initial_bounds f e (is_true _ h)).0, (sized f a).most_events));
         class = λ e h. class_of e (is_true _ h);
         next_source = λ x y h. holds _ (next_from x y (is_true _ h));
         next_target = λ x y h. holds _ (next_to x y (is_true _ h));

@@ -7,7 +7,7 @@ pub mod legal;
 pub mod links;
 
 // What the header says: whether it is a source recording, N event records, L locations, M link records.
-#[derive(Drop)]
+#[derive(Clone, Copy)]
 pub struct Header {
     pub source: bool,
     pub events: usize,
@@ -19,7 +19,7 @@ pub struct Header {
 pub const INPUT: usize = 1413;
 
 // What loading answers.
-#[derive(Drop)]
+#[derive(Clone, Copy)]
 pub enum Load {
     Refused(u8),
     Loaded(Header),

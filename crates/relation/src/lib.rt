@@ -9,7 +9,7 @@ pub mod ring;
 pub mod row;
 
 // A list of event numbers: the first len of at.
-#[derive(Drop)]
+#[derive(Clone, Copy)]
 pub struct Sequence {
     pub at: [u8; 64],
     pub len: usize,

@@ -11,7 +11,7 @@ use crate::row::Row;
 use crate::{Sequence, grid, row};
 
 // Where a ring starts, and how many steps of g it has; 64 steps where there is none.
-#[derive(Drop)]
+#[derive(Clone, Copy)]
 pub struct Start {
     pub steps: usize,
     pub event: usize,

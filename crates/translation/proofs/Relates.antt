@@ -103,9 +103,9 @@ module _ (S C : Recording ℕ) (s : Contents) (p : Says S s) (q : Says C (transl
             ]
           ]
 
-  fence_mode_lem : (e : ℕ) → T (fence S e) → ((S.mode e ≡ 1) × (C.mode e ≡ 5)) ⊎ (T (release_fence S e) × (C.mode e ≡ 6))
+  fence_mode : (e : ℕ) → T (fence S e) → ((S.mode e ≡ 1) × (C.mode e ≡ 5)) ⊎ (T (release_fence S e) × (C.mode e ≡ 6))
   unfolding translated release_fence
-  fence_mode_lem e h = go (event_says S s p e (class_event S 3 e h))
+  fence_mode e h = go (event_says S s p e (class_event S 3 e h))
     where
       go : Event S s p e → ((S.mode e ≡ 1) × (C.mode e ≡ 5)) ⊎ (T (fence_of S 2 e || fence_of S 3 e || fence_of S 4 e) × (C.mode e ≡ 6))
       go (initially i _) = absurd (omega (arith, p.initial_class e i, class_is S 3 e h))
@@ -258,7 +258,7 @@ module _ (S C : Recording ℕ) (s : Contents) (p : Says S s) (q : Says C (transl
     mode = same_mode;
     read_flag = read_flag;
     write_flag = write_flag;
-    fence_mode_lem = fence_mode_lem;
+    fence_mode = fence_mode;
     inserted_class = λ w h. (let a = law.inserted_above s w (strong_is w h) in q.class (inserted s w) (omega (arith, a)) a.1 ∙ law.made s s.class 3 (inserted s w) a.0);
     inserted_mode = λ w h. (let a = law.inserted_above s w (strong_is w h) in q.mode (inserted s w) (omega (arith, a)) a.1 ∙ law.made s (new_mode s) 5 (inserted s w) a.0);
     next_source = λ a b h. (let w = q.next a b h in q.is_recorded_lem a w.0 w.1);

@@ -25,7 +25,7 @@ pub fn tried(sets: Sets, relations: Relations, fr: Grid) -> Verdict
     }
     let po = relations[base::PO];
     let co = relations[base::CO];
-    // Rule 3: po_loc ∪ rf ∪ fr ∪ co has no ring.
+    // Rule 3: po-loc ∪ rf ∪ fr ∪ co has no ring.
     let poloc = grid::and(po, relations[base::LOC]);
     let steps = grid::or(grid::or(grid::or(poloc, relations[base::RF]), fr), co);
     let returning = grid::diagonal(grid::closure(steps));

@@ -16,7 +16,7 @@ use relation::row::Row;
 use relation::{grid, row};
 
 // A pair of a relation, or 64 for the first where there is none.
-#[derive(Drop)]
+#[derive(Clone, Copy)]
 pub struct Pair {
     pub first: usize,
     pub second: usize,

@@ -12,7 +12,7 @@ use borrow.Author.Rules.{rules}
 use Rattle.clause.proofs.holds.Goals as goal
 
 outside : (g : List (List ℕ)) → length g ≡ 64 → (a b : ℕ) → (a < 64 → b < 64 → ⊥) → false ≡ edge g a b
-outside g l a b h = (let inside = edge_inside g l in sym (is_false (edge g a b) (λ e. h (inside.source a b e) (inside.target a b e))))
+outside g l a b h = let inside = edge_inside g l in sym (is_false (edge g a b) (λ e. h (inside.source a b e) (inside.target a b e)))
 
 pub returns-then-a-ge64 : goal.returns-then-a-ge64
 returns-then-a-ge64 c = outside _ (search rules) _ _ (λ p q. omega (arith, c.if-a-ge64.true))

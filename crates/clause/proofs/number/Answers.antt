@@ -20,4 +20,4 @@ loop-n-preserved c =
 
 pub returns : goal.returns
 returns c =
-    (let inv = c.loop-n.invariant in passed_all _ _ _ _ (omega (arith, inv.0, c.loop-n-test.false)) inv.1)
+    let inv = c.loop-n.invariant in passed_all _ _ _ _ (omega (arith, inv.0, c.loop-n-test.false)) inv.1

@@ -13,4 +13,4 @@ loop-k-preserved c =
     (inv.0, joined_more _ _ _ _ (omega (arith, inv.0, c.loop-k-test.true)) inv.1 c.or-z.ensures)
 
 pub returns : goal.returns
-returns c = (let inv = c.loop-k.invariant in joined_all _ _ _ (omega (arith, inv.0, c.loop-k-test.false)) inv.1)
+returns c = let inv = c.loop-k.invariant in joined_all _ _ _ (omega (arith, inv.0, c.loop-k-test.false)) inv.1

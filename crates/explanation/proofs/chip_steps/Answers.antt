@@ -24,4 +24,4 @@ returns-in-Written c =
     chip_explained _ _ _ _ _ (fills_wrote _ _ _ _ _ c.written.ensures _ c.in-Written.is).begins c.explained.ensures
 
 pub slice_bounds-explained-end : goal.slice_bounds-explained-end
-slice_bounds-explained-end c = sym (length-take-le _ _ (((fills_wrote _ _ _ _ _ c.written.ensures _ c.in-Written.is).within)))
+slice_bounds-explained-end c = sym (length-take-le _ _ ((fills_wrote _ _ _ _ _ c.written.ensures _ c.in-Written.is).within))

@@ -25,7 +25,7 @@ pub loaded-v-requires : goal.loaded-v-requires
 loaded-v-requires c = loaded_side _ _ _ _ c.load-answer.ensures c.in-Loaded.is c.if-source.false
 
 pub explained-requires : goal.explained-requires
-explained-requires c = (((loaded_side _ _ _ _ c.load-answer.ensures c.in-Loaded.is c.if-source.false), c.loaded-v.ensures))
+explained-requires c = ((loaded_side _ _ _ _ c.load-answer.ensures c.in-Loaded.is c.if-source.false), c.loaded-v.ensures)
 
 pub returns : goal.returns
 returns c =

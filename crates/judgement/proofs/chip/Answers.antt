@@ -20,4 +20,4 @@ returns-in-Written c =
     chip_judged _ _ _ (fills_wrote _ _ _ _ _ c.written.ensures _ c.in-Written.is).begins c.loaded.ensures
 
 pub slice_bounds-loaded-end : goal.slice_bounds-loaded-end
-slice_bounds-loaded-end c = sym (length-take-le _ _ (((fills_wrote _ _ _ _ _ c.written.ensures _ c.in-Written.is).within)))
+slice_bounds-loaded-end c = sym (length-take-le _ _ ((fills_wrote _ _ _ _ _ c.written.ensures _ c.in-Written.is).within))

@@ -8,7 +8,7 @@ pub loop-k-init : goal.loop-k-init
 loop-k-init c = (search rules, putting_none _ _ _ c.requires)
 
 pub loop-k-preserved : goal.loop-k-preserved
-loop-k-preserved c = ((search rules, putting_more _ _ _ _ _ c.loop-k.invariant.1 c.loop-k-test.true))
+loop-k-preserved c = (search rules, putting_more _ _ _ _ _ c.loop-k.invariant.1 c.loop-k-test.true)
 
 pub returns : goal.returns
 returns c = putting_all _ _ _ _ _ c.loop-k.invariant.1 (omega arith)

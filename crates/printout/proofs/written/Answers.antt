@@ -4,10 +4,10 @@ use Rattle.printout.proofs.PageCall.{page_short, page_written}
 use Rattle.printout.proofs.written.Goals as goal
 
 pub returns-then-out-length : goal.returns-then-out-length
-returns-then-out-length c = (page_short _ _ _ c.requires _ c.longest-n.ensures.0 c.if-out-length.true)
+returns-then-out-length c = page_short _ _ _ c.requires _ c.longest-n.ensures.0 c.if-out-length.true
 
 pub line-line-requires : goal.line-line-requires
-line-line-requires c = (let pre = c.requires in (sized _ pre, threads_sound_lem _ pre))
+line-line-requires c = let pre = c.requires in (sized _ pre, threads_sound_lem _ pre)
 
 pub returns : goal.returns
 returns c =

@@ -9,11 +9,11 @@ use Rattle.translation.proofs.written.Goals as goal
 
 pub overflow_mul-length : goal.overflow_mul-length
 overflow_mul-length c =
-    (let few = ends_few _ _ c.requires _ c.new_events-n.result c.ends-ends.ensures (omega arith) in omega (arith, few))
+    let few = ends_few _ _ c.requires _ c.new_events-n.result c.ends-ends.ensures (omega arith) in omega (arith, few)
 
 pub overflow_add-length : goal.overflow_add-length
 overflow_add-length c =
-    (let few = ends_few _ _ c.requires _ c.new_events-n.result c.ends-ends.ensures (omega arith) in omega (arith, few, c.new_events-n.ensures.1))
+    let few = ends_few _ _ c.requires _ c.new_events-n.result c.ends-ends.ensures (omega arith) in omega (arith, few, c.new_events-n.ensures.1)
 
 pub returns-then-out-length : goal.returns-then-out-length
 returns-then-out-length c =

@@ -6,7 +6,7 @@ use borrow.Author.Rules.{rules}
 use Rattle.judgement.proofs.page.line.Goals as goal
 
 pub put-requires : goal.put-requires
-put-requires c = (omega (arith, text_size c.args.text (search rules) c.requires, c.requires))
+put-requires c = omega (arith, text_size c.args.text (search rules) c.requires, c.requires)
 
 pub returns : goal.returns
 returns c =

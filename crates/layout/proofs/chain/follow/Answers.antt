@@ -11,7 +11,7 @@ pub overflow_add-n : goal.overflow_add-n
 overflow_add-n c = omega (arith, c.requires.0.small)
 
 pub loop-n-init : goal.loop-n-init
-loop-n-init c = (let pre = c.requires in (pre.0, pre.1, (λ l w. going_start _ _ l _ _ w), refl, pre.2))
+loop-n-init c = let pre = c.requires in (pre.0, pre.1, (λ l w. going_start _ _ l _ _ w), refl, pre.2)
 
 pub returns-then-x-eq0 : goal.returns-then-x-eq0
 returns-then-x-eq0 c =
@@ -24,7 +24,7 @@ returns-then-limit-x c =
     λ l w. going_over (inv.2 l w) (c.loop-n.n - 1) (omega arith) c.if-x-eq0.false c.if-limit-x.true
 
 pub bounds-marks-x : goal.bounds-marks-x
-bounds-marks-x c = (let inv = c.loop-n.invariant in omega (arith, inv.1, inv.3, inv.4))
+bounds-marks-x c = let inv = c.loop-n.invariant in omega (arith, inv.1, inv.3, inv.4)
 
 pub returns-then-marks-x-eq1 : goal.returns-then-marks-x-eq1
 returns-then-marks-x-eq1 c =

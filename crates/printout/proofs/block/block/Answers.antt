@@ -33,10 +33,10 @@ overflow_add-result-2 c =
 pub star-requires : goal.star-requires
 star-requires c =
     let pre = c.requires in
-    omega (arith, pre.2, (sized _ pre.0).most_events_lem)
+    omega (arith, pre.2, (sized _ pre.0).most_events)
 
 pub returns : goal.returns
 returns c =
     let pre = c.requires in
-    λ ring w. block_is _ _ ring (omega (arith, pre.2, (sized _ pre.0).most_events_lem)) c.aligned-number.ensures c.place-place.ensures
+    λ ring w. block_is _ _ ring (omega (arith, pre.2, (sized _ pre.0).most_events)) c.aligned-number.ensures c.place-place.ensures
     (c.letter.ensures ∙ ap letter c.class_of.ensures.0) c.mode_of.ensures.0 c.flag_of.ensures.0 (c.star.ensures ring w)

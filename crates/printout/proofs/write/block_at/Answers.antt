@@ -7,7 +7,7 @@ use Rattle.printout.proofs.PageLaws.{block_present, block_absent}
 use Rattle.printout.proofs.write.block_at.Goals as goal
 
 pub overflow_add-i : goal.overflow_add-i
-overflow_add-i c = (let pre = c.requires in omega (arith, start_few _ _ _ pre.0 pre.1 _ pre.2, pre.3))
+overflow_add-i c = let pre = c.requires in omega (arith, start_few _ _ _ pre.0 pre.1 _ pre.2, pre.3)
 
 pub returns-then-starts-t : goal.returns-then-starts-t
 returns-then-starts-t c =
@@ -15,7 +15,7 @@ returns-then-starts-t c =
     λ ring w. sym (block_absent _ ring _ _ (absent _ _ _ pre.0 pre.1 _ pre.2 _ c.if-starts-t.true))
 
 pub bounds-at-i : goal.bounds-at-i
-bounds-at-i c = (let pre = c.requires in omega (arith, in_line _ _ _ pre.0 pre.1 _ pre.2 _ c.if-starts-t.false))
+bounds-at-i c = let pre = c.requires in omega (arith, in_line _ _ _ pre.0 pre.1 _ pre.2 _ c.if-starts-t.false)
 
 pub block-requires : goal.block-requires
 block-requires c =

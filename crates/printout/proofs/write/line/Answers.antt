@@ -8,7 +8,7 @@ use borrow.Author.Rules.{rules}
 use Rattle.printout.proofs.write.line.Goals as goal
 
 pub loop-t-init : goal.loop-t-init
-loop-t-init c = (let pre = c.requires in (pre.0, pre.1, pre.2, blocks_none _ _ _ _ pre.3))
+loop-t-init c = let pre = c.requires in (pre.0, pre.1, pre.2, blocks_none _ _ _ _ pre.3)
 
 pub loop-t-preserved : goal.loop-t-preserved
 loop-t-preserved c =

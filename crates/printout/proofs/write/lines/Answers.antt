@@ -5,7 +5,7 @@ use borrow.Author.Rules.{rules}
 use Rattle.printout.proofs.write.lines.Goals as goal
 
 pub loop-left-init : goal.loop-left-init
-loop-left-init c = (let pre = c.requires in (pre.0, pre.1, pre.2, search rules, lines_none _ _ _ _ pre.3))
+loop-left-init c = let pre = c.requires in (pre.0, pre.1, pre.2, search rules, lines_none _ _ _ _ pre.3)
 
 pub loop-left-preserved : goal.loop-left-preserved
 loop-left-preserved c =

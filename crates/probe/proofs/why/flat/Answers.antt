@@ -14,4 +14,4 @@ loop-k-preserved c =
     (omega (arith, less), inv.1, inv.2, flat_more _ _ _ inv.3 (omega (arith, inv.1, less)) inv.2)
 
 pub returns : goal.returns
-returns c = (let inv = c.loop-k.invariant in flat_all _ _ _ _ inv.3 inv.0 c.loop-k-test.false)
+returns c = let inv = c.loop-k.invariant in flat_all _ _ _ _ inv.3 inv.0 c.loop-k-test.false

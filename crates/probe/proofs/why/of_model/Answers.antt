@@ -15,7 +15,7 @@ pub loaded-v-requires : goal.loaded-v-requires
 loaded-v-requires c = cause_goes_on _ _ (sym c.cause-k.ensures ∙ c.if-k-ne0.false)
 
 pub explained-requires : goal.explained-requires
-explained-requires c = ((cause_goes_on _ _ (sym c.cause-k.ensures ∙ c.if-k-ne0.false), c.loaded-v.ensures))
+explained-requires c = (cause_goes_on _ _ (sym c.cause-k.ensures ∙ c.if-k-ne0.false), c.loaded-v.ensures)
 
 pub explained-requires-2 : goal.explained-requires-2
 explained-requires-2 c = judged_few c.args.model _ _ c.loaded-v.ensures.shown

@@ -18,13 +18,13 @@ loop-e-preserved c =
     ]
 
 pub returns : goal.returns
-returns c = (let inv = c.loop-e.invariant in locating_all inv.1 c.loop-e-test.false inv.3)
+returns c = let inv = c.loop-e.invariant in locating_all inv.1 c.loop-e-test.false inv.3
 
 pub place_of-l-requires : goal.place_of-l-requires
 place_of-l-requires c = c.loop-e.invariant.1
 
 pub following-e-requires : goal.following-e-requires
-following-e-requires c = (let inv = c.loop-e.invariant in (omega (arith, inv.1.most_events_lem, inv.2), c.loop-e-test.true))
+following-e-requires c = let inv = c.loop-e.invariant in (omega (arith, inv.1.most_events, inv.2), c.loop-e-test.true)
 
 pub loop-e-smaller : goal.loop-e-smaller
 loop-e-smaller c = omega (arith, c.following-e.ensures.above, c.loop-e-test.true)

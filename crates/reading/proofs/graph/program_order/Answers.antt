@@ -13,7 +13,7 @@ loop-k-init c =
     backward_start _ pre.0 pre.1 c.line-line.ensures long (search rules) c.initial.ensures c.recorded.ensures c.product-h.ensures
 
 pub bounds-at-k : goal.bounds-at-k
-bounds-at-k c = (let inv = c.loop-k.invariant in omega (arith, inv.high, inv.line.bounded, c.loop-k-test.true))
+bounds-at-k c = let inv = c.loop-k.invariant in omega (arith, inv.high, inv.line.bounded, c.loop-k-test.true)
 
 pub event_byte-b-requires : goal.event_byte-b-requires
 event_byte-b-requires c =
@@ -23,25 +23,25 @@ event_byte-b-requires c =
 
 pub loop-k-preserved-then-b-ne0 : goal.loop-k-preserved-then-b-ne0
 loop-k-preserved-then-b-ne0 c =
-    backward_with c.loop-k.invariant c.loop-k-test.true ((placed c.loop-k.invariant c.loop-k-test.true refl c.event_byte-b.ensures.0)) c.if-b-ne0.true _ c.with.ensures
+    backward_with c.loop-k.invariant c.loop-k-test.true (placed c.loop-k.invariant c.loop-k-test.true refl c.event_byte-b.ensures.0) c.if-b-ne0.true _ c.with.ensures
 
 pub loop-k-preserved : goal.loop-k-preserved
-loop-k-preserved c = (backward_keep c.loop-k.invariant c.loop-k-test.true ((placed c.loop-k.invariant c.loop-k-test.true refl c.event_byte-b.ensures.0)) c.if-b-ne0.false)
+loop-k-preserved c = backward_keep c.loop-k.invariant c.loop-k-test.true (placed c.loop-k.invariant c.loop-k-test.true refl c.event_byte-b.ensures.0) c.if-b-ne0.false
 
 pub returns : goal.returns
 returns c = backward_all c.loop-k-test.false c.loop-k.invariant
 
 pub offset_bounds-h-b : goal.offset_bounds-h-b
-offset_bounds-h-b c = (let event = (placed c.loop-k.invariant c.loop-k-test.true refl c.event_byte-b.ensures.0) in omega arith)
+offset_bounds-h-b c = let event = (placed c.loop-k.invariant c.loop-k-test.true refl c.event_byte-b.ensures.0) in omega arith
 
 pub bounds-h-b : goal.bounds-h-b
-bounds-h-b c = (let event = (placed c.loop-k.invariant c.loop-k-test.true refl c.event_byte-b.ensures.0) in omega arith)
+bounds-h-b c = let event = (placed c.loop-k.invariant c.loop-k-test.true refl c.event_byte-b.ensures.0) in omega arith
 
 pub with-requires : goal.with-requires
-with-requires c = (let event = (placed c.loop-k.invariant c.loop-k-test.true refl c.event_byte-b.ensures.0) in omega arith)
+with-requires c = let event = (placed c.loop-k.invariant c.loop-k-test.true refl c.event_byte-b.ensures.0) in omega arith
 
 pub offset_bounds-h-e : goal.offset_bounds-h-e
-offset_bounds-h-e c = (let event = (placed c.loop-k.invariant c.loop-k-test.true refl c.event_byte-b.ensures.0) in omega arith)
+offset_bounds-h-e c = let event = (placed c.loop-k.invariant c.loop-k-test.true refl c.event_byte-b.ensures.0) in omega arith
 
 pub bounds-h-e : goal.bounds-h-e
-bounds-h-e c = (let event = (placed c.loop-k.invariant c.loop-k-test.true refl c.event_byte-b.ensures.0) in omega arith)
+bounds-h-e c = let event = (placed c.loop-k.invariant c.loop-k-test.true refl c.event_byte-b.ensures.0) in omega arith

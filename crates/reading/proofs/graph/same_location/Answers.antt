@@ -7,7 +7,7 @@ use Rattle.reading.proofs.graph.same_location.Goals as goal
 
 pub loop-e-init : goal.loop-e-init
 loop-e-init c =
-    (let pre = c.requires in (search rules, pre.0, pre.1, c.events-n.ensures.0, c.by_location-rows.ensures, rows_none_of _ _ _ (search rules) c.empty-h.ensures))
+    let pre = c.requires in (search rules, pre.0, pre.1, c.events-n.ensures.0, c.by_location-rows.ensures, rows_none_of _ _ _ (search rules) c.empty-h.ensures)
 
 pub loop-e-preserved : goal.loop-e-preserved
 loop-e-preserved c =
@@ -28,13 +28,13 @@ loop-e-preserved c =
     ]
 
 pub returns : goal.returns
-returns c = (let inv = c.loop-e.invariant in rows_all _ _ _ _ c.loop-e-test.false inv.5 (location_out _ inv.1))
+returns c = let inv = c.loop-e.invariant in rows_all _ _ _ _ c.loop-e-test.false inv.5 (location_out _ inv.1)
 
 pub place_of-l-requires : goal.place_of-l-requires
 place_of-l-requires c = c.loop-e.invariant.1
 
 pub following-e-requires : goal.following-e-requires
-following-e-requires c = (let inv = c.loop-e.invariant in (omega (arith, inv.1.most_events_lem, inv.3), c.loop-e-test.true))
+following-e-requires c = let inv = c.loop-e.invariant in (omega (arith, inv.1.most_events, inv.3), c.loop-e-test.true)
 
 pub loop-e-smaller : goal.loop-e-smaller
 loop-e-smaller c = omega (arith, c.following-e.ensures.above, c.loop-e-test.true)

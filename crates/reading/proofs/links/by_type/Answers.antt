@@ -16,10 +16,10 @@ loop-n-init c =
     (walk_start pre.0 pre.1 pre.2 c.events.ensures.0 many first (readable_le _) pre.3, sorted_start many first)
 
 pub returns-then-m-eq0 : goal.returns-then-m-eq0
-returns-then-m-eq0 c = (let inv = c.loop-n.invariant in sorted_done inv.1 inv.0 (inl c.if-m-eq0.true))
+returns-then-m-eq0 c = let inv = c.loop-n.invariant in sorted_done inv.1 inv.0 (inl c.if-m-eq0.true)
 
 pub with-requires : goal.with-requires
-with-requires c = omega (arith, readable_lt _ _ ((walk_here c.loop-n.invariant.0 c.loop-n-test.true c.if-m-eq0.false)).good, c.link_byte.ensures.0)
+with-requires c = omega (arith, readable_lt _ _ (walk_here c.loop-n.invariant.0 c.loop-n-test.true c.if-m-eq0.false).good, c.link_byte.ensures.0)
 
 pub loop-n-preserved : goal.loop-n-preserved
 loop-n-preserved c =
@@ -34,13 +34,13 @@ loop-n-preserved c =
     ]
 
 pub returns : goal.returns
-returns c = (let inv = c.loop-n.invariant in sorted_done inv.1 inv.0 (inr c.loop-n-test.false))
+returns c = let inv = c.loop-n.invariant in sorted_done inv.1 inv.0 (inr c.loop-n-test.false)
 
 pub link_byte-t-requires : goal.link_byte-t-requires
-link_byte-t-requires c = (let link = (walk_here c.loop-n.invariant.0 c.loop-n-test.true c.if-m-eq0.false) in search rules)
+link_byte-t-requires c = let link = (walk_here c.loop-n.invariant.0 c.loop-n-test.true c.if-m-eq0.false) in search rules
 
 pub link_byte-requires : goal.link_byte-requires
-link_byte-requires c = (let link = (walk_here c.loop-n.invariant.0 c.loop-n-test.true c.if-m-eq0.false) in search rules)
+link_byte-requires c = let link = (walk_here c.loop-n.invariant.0 c.loop-n-test.true c.if-m-eq0.false) in search rules
 
 pub moved-next-requires : goal.moved-next-requires
-moved-next-requires c = (let link = (walk_here c.loop-n.invariant.0 c.loop-n-test.true c.if-m-eq0.false) in search rules)
+moved-next-requires c = let link = (walk_here c.loop-n.invariant.0 c.loop-n-test.true c.if-m-eq0.false) in search rules

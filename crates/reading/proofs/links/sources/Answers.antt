@@ -17,10 +17,10 @@ loop-n-init c =
     (walk, taken_start c.none-r.ensures many first)
 
 pub returns-then-m-eq0 : goal.returns-then-m-eq0
-returns-then-m-eq0 c = (let inv = c.loop-n.invariant in taken_done inv.1 inv.0 (inl c.if-m-eq0.true))
+returns-then-m-eq0 c = let inv = c.loop-n.invariant in taken_done inv.1 inv.0 (inl c.if-m-eq0.true)
 
 pub with-more-requires : goal.with-more-requires
-with-more-requires c = omega (arith, readable_lt _ _ ((walk_here c.loop-n.invariant.0 c.loop-n-test.true c.if-m-eq0.false)).good, c.link_byte.ensures.0)
+with-more-requires c = omega (arith, readable_lt _ _ (walk_here c.loop-n.invariant.0 c.loop-n-test.true c.if-m-eq0.false).good, c.link_byte.ensures.0)
 
 pub loop-n-preserved : goal.loop-n-preserved
 loop-n-preserved c =
@@ -35,13 +35,13 @@ loop-n-preserved c =
     ]
 
 pub returns : goal.returns
-returns c = (let inv = c.loop-n.invariant in taken_done inv.1 inv.0 (inr c.loop-n-test.false))
+returns c = let inv = c.loop-n.invariant in taken_done inv.1 inv.0 (inr c.loop-n-test.false)
 
 pub link_byte-requires : goal.link_byte-requires
-link_byte-requires c = (let link = (walk_here c.loop-n.invariant.0 c.loop-n-test.true c.if-m-eq0.false) in search rules)
+link_byte-requires c = let link = (walk_here c.loop-n.invariant.0 c.loop-n-test.true c.if-m-eq0.false) in search rules
 
 pub link_byte-requires-in-loop-n : goal.link_byte-requires-in-loop-n
-link_byte-requires-in-loop-n c = (let link = (walk_here c.loop-n.invariant.0 c.loop-n-test.true c.if-m-eq0.false) in search rules)
+link_byte-requires-in-loop-n c = let link = (walk_here c.loop-n.invariant.0 c.loop-n-test.true c.if-m-eq0.false) in search rules
 
 pub moved-next-requires : goal.moved-next-requires
-moved-next-requires c = (let link = (walk_here c.loop-n.invariant.0 c.loop-n-test.true c.if-m-eq0.false) in search rules)
+moved-next-requires c = let link = (walk_here c.loop-n.invariant.0 c.loop-n-test.true c.if-m-eq0.false) in search rules

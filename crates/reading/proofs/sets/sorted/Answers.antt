@@ -4,7 +4,7 @@ use Rattle.reading.proofs.SortLaws.{sorting_first, sorting_recorded, sorting_wit
 use Rattle.reading.proofs.sets.sorted.Goals as goal
 
 pub loop-e-init : goal.loop-e-init
-loop-e-init c = (let pre = c.requires in (pre.0, pre.1, pre.2, sorting_first _ _ _ c.first-e.ensures))
+loop-e-init c = let pre = c.requires in (pre.0, pre.1, pre.2, sorting_first _ _ _ c.first-e.ensures)
 
 pub event_byte-v-requires : goal.event_byte-v-requires
 event_byte-v-requires c =

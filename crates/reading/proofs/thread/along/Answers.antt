@@ -9,11 +9,11 @@ start-cursor-requires c = omega (arith, c.requires.0.long, c.requires.2)
 
 pub loop-cursor-init : goal.loop-cursor-init
 loop-cursor-init c =
-    (let pre = c.requires in (pre.0, partway_start _ pre.0 pre.1 _ _ _ _ pre.2 pre.3 (search rules) c.start-cursor.ensures.0))
+    let pre = c.requires in (pre.0, partway_start _ pre.0 pre.1 _ _ _ _ pre.2 pre.3 (search rules) c.start-cursor.ensures.0)
 
 pub overflow_cast-at : goal.overflow_cast-at
 overflow_cast-at c =
-    (let inv = c.loop-cursor.invariant in omega (arith, inv.0.most_events_lem, partway_in _ _ _ _ _ inv.1 c.loop-cursor-test.true))
+    let inv = c.loop-cursor.invariant in omega (arith, inv.0.most_events, partway_in _ _ _ _ _ inv.1 c.loop-cursor-test.true)
 
 pub bounds-at-len : goal.bounds-at-len
 bounds-at-len c = omega (arith, partway_in _ _ _ _ _ c.loop-cursor.invariant.1 c.loop-cursor-test.true)

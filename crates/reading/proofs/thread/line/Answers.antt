@@ -7,10 +7,10 @@ pub loop-t-init : goal.loop-t-init
 loop-t-init c = (search rules, c.requires.0, c.requires.1, line_none _ _)
 
 pub along-more-requires : goal.along-more-requires
-along-more-requires c = (let inv = c.loop-t.invariant in (inv.1, inv.2, c.loop-t-test.true, inv.3))
+along-more-requires c = let inv = c.loop-t.invariant in (inv.1, inv.2, c.loop-t-test.true, inv.3)
 
 pub loop-t-preserved : goal.loop-t-preserved
-loop-t-preserved c = (let inv = c.loop-t.invariant in (search rules, inv.1, inv.2, c.along-more.ensures))
+loop-t-preserved c = let inv = c.loop-t.invariant in (search rules, inv.1, inv.2, c.along-more.ensures)
 
 pub returns : goal.returns
 returns c =

@@ -18,22 +18,22 @@ returns-then-file-lt8 c =
 pub returns-then-not-known : goal.returns-then-not-known
 unfolding header_causes kind_unknown at positive too_short first
 returns-then-not-known c =
-    record { cause = sym (first_at 1 (header_causes _) refl ((none_more 0 (header_causes (c.args.file.now)) refl refl (le-ltb _ 8 c.if-file-lt8.false))) (ap not (sym c.known.ensures) ∙ (ap not c.if-not-known.true))); sized = λ e. absurd (omega arith) }
+    record { cause = sym (first_at 1 (header_causes _) refl (none_more 0 (header_causes (c.args.file.now)) refl refl (le-ltb _ 8 c.if-file-lt8.false)) (ap not (sym c.known.ensures) ∙ (ap not c.if-not-known.true))); sized = λ e. absurd (omega arith) }
 
 pub returns-then-over_limit : goal.returns-then-over_limit
 unfolding header_causes at positive kind_unknown too_short first
 returns-then-over_limit c =
-    record { cause = sym (first_at 2 (header_causes _) refl ((none_more 1 (header_causes (c.args.file.now)) refl ((none_more 0 (header_causes (c.args.file.now)) refl refl (le-ltb _ 8 c.if-file-lt8.false))) (ap not (sym c.known.ensures) ∙ (ap not c.if-not-known.false)))) (sym (over_of (c.args.file.now) _ _ c.side_of.ensures c.over_limit.ensures) ∙ c.if-over_limit.true)); sized = λ e. absurd (omega arith) }
+    record { cause = sym (first_at 2 (header_causes _) refl (none_more 1 (header_causes (c.args.file.now)) refl (none_more 0 (header_causes (c.args.file.now)) refl refl (le-ltb _ 8 c.if-file-lt8.false)) (ap not (sym c.known.ensures) ∙ (ap not c.if-not-known.false))) (sym (over_of (c.args.file.now) _ _ c.side_of.ensures c.over_limit.ensures) ∙ c.if-over_limit.true)); sized = λ e. absurd (omega arith) }
 
 pub returns-then-file-n : goal.returns-then-file-n
 unfolding header_causes wrong_length at positive kind_unknown too_short first
 returns-then-file-n c =
-    record { cause = sym (first_at 3 (header_causes _) refl ((none_more 2 (header_causes (c.args.file.now)) refl ((none_more 1 (header_causes (c.args.file.now)) refl ((none_more 0 (header_causes (c.args.file.now)) refl refl (le-ltb _ 8 c.if-file-lt8.false))) (ap not (sym c.known.ensures) ∙ (ap not c.if-not-known.false)))) ((sym (over_of (c.args.file.now) _ _ c.side_of.ensures c.over_limit.ensures) ∙ c.if-over_limit.false)))) (ap not (ne_eqb _ _ c.if-file-n.true))); sized = λ e. absurd (omega arith) }
+    record { cause = sym (first_at 3 (header_causes _) refl (none_more 2 (header_causes (c.args.file.now)) refl (none_more 1 (header_causes (c.args.file.now)) refl (none_more 0 (header_causes (c.args.file.now)) refl refl (le-ltb _ 8 c.if-file-lt8.false)) (ap not (sym c.known.ensures) ∙ (ap not c.if-not-known.false))) (sym (over_of (c.args.file.now) _ _ c.side_of.ensures c.over_limit.ensures) ∙ c.if-over_limit.false)) (ap not (ne_eqb _ _ c.if-file-n.true))); sized = λ e. absurd (omega arith) }
 
 pub returns : goal.returns
 unfolding header_causes wrong_length at positive kind_unknown too_short first
 returns c =
-    record { cause = sym (none_more 3 (header_causes _) refl ((none_more 2 (header_causes (c.args.file.now)) refl ((none_more 1 (header_causes (c.args.file.now)) refl ((none_more 0 (header_causes (c.args.file.now)) refl refl (le-ltb _ 8 c.if-file-lt8.false))) (ap not (sym c.known.ensures) ∙ (ap not c.if-not-known.false)))) ((sym (over_of (c.args.file.now) _ _ c.side_of.ensures c.over_limit.ensures) ∙ c.if-over_limit.false)))) (ap not (eq-eqb _ _ c.if-file-n.false))); sized = λ e. sized_of _ ((sym (over_of (c.args.file.now) _ _ c.side_of.ensures c.over_limit.ensures) ∙ c.if-over_limit.false)) c.if-file-n.false }
+    record { cause = sym (none_more 3 (header_causes _) refl (none_more 2 (header_causes (c.args.file.now)) refl (none_more 1 (header_causes (c.args.file.now)) refl (none_more 0 (header_causes (c.args.file.now)) refl refl (le-ltb _ 8 c.if-file-lt8.false)) (ap not (sym c.known.ensures) ∙ (ap not c.if-not-known.false))) (sym (over_of (c.args.file.now) _ _ c.side_of.ensures c.over_limit.ensures) ∙ c.if-over_limit.false)) (ap not (eq-eqb _ _ c.if-file-n.false))); sized = λ e. sized_of _ (sym (over_of (c.args.file.now) _ _ c.side_of.ensures c.over_limit.ensures) ∙ c.if-over_limit.false) c.if-file-n.false }
 
 pub overflow_cast-kind : goal.overflow_cast-kind
 overflow_cast-kind c = omega (arith, c.shared_slice_known-2-1.given 0)

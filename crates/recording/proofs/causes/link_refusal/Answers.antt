@@ -38,23 +38,23 @@ returns-then-not-links_sound c =
 
 pub co_ring-requires : goal.co_ring-requires
 unfolding link_causes at positive unpaired bad_link
-co_ring-requires c = (readable_of _ (chained-of _ c.requires.0 c.requires.1) (opposite _ _ _ c.links_sound.ensures (ap not c.if-not-links_sound.false)))
+co_ring-requires c = readable_of _ (chained-of _ c.requires.0 c.requires.1) (opposite _ _ _ c.links_sound.ensures (ap not c.if-not-links_sound.false))
 
 pub returns-then-co_ring : goal.returns-then-co_ring
 unfolding link_causes at positive unpaired bad_link first
 returns-then-co_ring c =
-    sym (first_at 1 (link_causes c.args.file.now) refl ((none_more 0 (link_causes (c.args.file.now)) refl refl (opposite _ _ _ c.links_sound.ensures (ap not c.if-not-links_sound.false)))) (sym c.co_ring.ensures ∙ c.if-co_ring.true))
+    sym (first_at 1 (link_causes c.args.file.now) refl (none_more 0 (link_causes (c.args.file.now)) refl refl (opposite _ _ _ c.links_sound.ensures (ap not c.if-not-links_sound.false))) (sym c.co_ring.ensures ∙ c.if-co_ring.true))
 
 pub paired-requires : goal.paired-requires
 unfolding link_causes at positive unpaired bad_link
-paired-requires c = (readable_of _ (chained-of _ c.requires.0 c.requires.1) (opposite _ _ _ c.links_sound.ensures (ap not c.if-not-links_sound.false)))
+paired-requires c = readable_of _ (chained-of _ c.requires.0 c.requires.1) (opposite _ _ _ c.links_sound.ensures (ap not c.if-not-links_sound.false))
 
 pub returns-then-not-paired : goal.returns-then-not-paired
 unfolding link_causes at positive unpaired bad_link first
 returns-then-not-paired c =
-    sym (first_at 2 (link_causes c.args.file.now) refl ((none_more 1 (link_causes (c.args.file.now)) refl ((none_more 0 (link_causes (c.args.file.now)) refl refl (opposite _ _ _ c.links_sound.ensures (ap not c.if-not-links_sound.false)))) (sym c.co_ring.ensures ∙ c.if-co_ring.false))) (opposite _ _ _ c.paired.ensures (ap not c.if-not-paired.true)))
+    sym (first_at 2 (link_causes c.args.file.now) refl (none_more 1 (link_causes (c.args.file.now)) refl (none_more 0 (link_causes (c.args.file.now)) refl refl (opposite _ _ _ c.links_sound.ensures (ap not c.if-not-links_sound.false))) (sym c.co_ring.ensures ∙ c.if-co_ring.false)) (opposite _ _ _ c.paired.ensures (ap not c.if-not-paired.true)))
 
 pub returns : goal.returns
 unfolding link_causes at positive unpaired bad_link first
 returns c =
-    sym (none_more 2 (link_causes c.args.file.now) refl ((none_more 1 (link_causes (c.args.file.now)) refl ((none_more 0 (link_causes (c.args.file.now)) refl refl (opposite _ _ _ c.links_sound.ensures (ap not c.if-not-links_sound.false)))) (sym c.co_ring.ensures ∙ c.if-co_ring.false))) (opposite _ _ _ c.paired.ensures (ap not c.if-not-paired.false)))
+    sym (none_more 2 (link_causes c.args.file.now) refl (none_more 1 (link_causes (c.args.file.now)) refl (none_more 0 (link_causes (c.args.file.now)) refl refl (opposite _ _ _ c.links_sound.ensures (ap not c.if-not-links_sound.false))) (sym c.co_ring.ensures ∙ c.if-co_ring.false)) (opposite _ _ _ c.paired.ensures (ap not c.if-not-paired.false)))

@@ -16,14 +16,14 @@ returns-then-j-ne0 c =
     load_refused _ _ (refused_records _ (sym c.header_refusal-k.ensures.cause ∙ c.if-k-ne0.false) _ c.record_refusal-j.ensures c.if-j-ne0.true) c.if-j-ne0.true
 
 pub link_refusal-i-requires : goal.link_refusal-i-requires
-link_refusal-i-requires c = ((c.header_refusal-k.ensures.sized c.if-k-ne0.false, (sym c.record_refusal-j.ensures ∙ c.if-j-ne0.false)))
+link_refusal-i-requires c = (c.header_refusal-k.ensures.sized c.if-k-ne0.false, (sym c.record_refusal-j.ensures ∙ c.if-j-ne0.false))
 
 pub returns-then-i-ne0 : goal.returns-then-i-ne0
 returns-then-i-ne0 c =
     load_refused _ _ (c.link_refusal-i.ensures ∙ refused_links _ (sym c.header_refusal-k.ensures.cause ∙ c.if-k-ne0.false) (sym c.record_refusal-j.ensures ∙ c.if-j-ne0.false)) c.if-i-ne0.true
 
 pub header-requires : goal.header-requires
-header-requires c = (sized_8 _ (c.header_refusal-k.ensures.sized c.if-k-ne0.false))
+header-requires c = sized_8 _ (c.header_refusal-k.ensures.sized c.if-k-ne0.false)
 
 pub returns : goal.returns
 returns c =

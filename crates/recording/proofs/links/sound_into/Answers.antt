@@ -39,7 +39,7 @@ pub offset_bounds-po-a : goal.offset_bounds-po-a
 offset_bounds-po-a c = record { fits = omega (arith, mask_lt c.link_byte-a.result 6) }
 
 pub has-requires : goal.has-requires
-has-requires c = let walk = c.loop-n.invariant.1 in omega (arith, walk.sized.most_events_lem, walk.high)
+has-requires c = let walk = c.loop-n.invariant.1 in omega (arith, walk.sized.most_events, walk.high)
 
 pub link_sound-requires : goal.link_sound-requires
 link_sound-requires c =
@@ -79,13 +79,13 @@ returns c =
     and_yes _ _ _ _ (along_done inv.2 (inr end)) refl (c.one_source-2.ensures _ _ (taken_done inv.3 inv.1 (inr end)))
 
 pub link_byte-a-requires : goal.link_byte-a-requires
-link_byte-a-requires c = (let link = (walk_here c.loop-n.invariant.1 c.loop-n-test.true c.if-m-eq0.false) in search rules)
+link_byte-a-requires c = let link = (walk_here c.loop-n.invariant.1 c.loop-n-test.true c.if-m-eq0.false) in search rules
 
 pub bounds-po-a : goal.bounds-po-a
 bounds-po-a c = mask_lt c.link_byte-a.result 6
 
 pub link_byte-requires : goal.link_byte-requires
-link_byte-requires c = (let link = (walk_here c.loop-n.invariant.1 c.loop-n-test.true c.if-m-eq0.false) in search rules)
+link_byte-requires c = let link = (walk_here c.loop-n.invariant.1 c.loop-n-test.true c.if-m-eq0.false) in search rules
 
 pub moved-next-requires : goal.moved-next-requires
-moved-next-requires c = (let link = (walk_here c.loop-n.invariant.1 c.loop-n-test.true c.if-m-eq0.false) in search rules)
+moved-next-requires c = let link = (walk_here c.loop-n.invariant.1 c.loop-n-test.true c.if-m-eq0.false) in search rules

@@ -12,7 +12,7 @@ loop-i-init c = mapped_start (search rules) (λ m h. refl)
 
 pub loop-i-preserved : goal.loop-i-preserved
 unfolding edge
-loop-i-preserved c = (mapped_more c.loop-i.invariant c.loop-i-test.true _ c.and.ensures)
+loop-i-preserved c = mapped_more c.loop-i.invariant c.loop-i-test.true _ c.and.ensures
 
 pub returns : goal.returns
 unfolding into

@@ -11,7 +11,7 @@ loop-i-init c = mapped_start (search rules) (edge_out _ (search rules))
 
 pub loop-i-preserved : goal.loop-i-preserved
 unfolding edge
-loop-i-preserved c = (mapped_more c.loop-i.invariant c.loop-i-test.true _ c.or.ensures)
+loop-i-preserved c = mapped_more c.loop-i.invariant c.loop-i-test.true _ c.or.ensures
 
 pub returns : goal.returns
 unfolding either

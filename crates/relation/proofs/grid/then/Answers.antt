@@ -13,11 +13,11 @@ pub loop-j-init : goal.loop-j-init
 loop-j-init c = reached_first _ _ _ _ c.none-none.ensures c.first-j.ensures
 
 pub loop-j-smaller : goal.loop-j-smaller
-loop-j-smaller c = (omega (arith, c.next-j.ensures.low, c.loop-j-test.true))
+loop-j-smaller c = omega (arith, c.next-j.ensures.low, c.loop-j-test.true)
 
 pub loop-j-preserved : goal.loop-j-preserved
 unfolding edge
-loop-j-preserved c = (reached_next _ _ _ _ c.loop-j.invariant c.loop-j-test.true _ _ c.or-z.ensures c.next-j.ensures)
+loop-j-preserved c = reached_next _ _ _ _ c.loop-j.invariant c.loop-j-test.true _ _ c.or-z.ensures c.next-j.ensures
 
 pub loop-i-preserved : goal.loop-i-preserved
 unfolding edge

@@ -27,7 +27,7 @@ pub loop-k-init : goal.loop-k-init
 loop-k-init c = seeking_first _ _ (not_ready _ _) _ c.first-k.ensures
 
 pub loop-k-smaller : goal.loop-k-smaller
-loop-k-smaller c = (omega (arith, c.next-k.ensures.low, c.loop-k-test.true))
+loop-k-smaller c = omega (arith, c.next-k.ensures.low, c.loop-k-test.true)
 
 pub loop-k-preserved : goal.loop-k-preserved
 unfolding edge

@@ -6,4 +6,4 @@ use borrow.Author.Rules.{rules}
 use Rattle.relation.proofs.row.bytes.Goals as goal
 
 pub returns : goal.returns
-returns c = (let f : Fits w64 c.args.w = search rules in bytes_bit c.args.w f.fits)
+returns c = let f : Fits w64 c.args.w = search rules in bytes_bit c.args.w f.fits

@@ -10,8 +10,8 @@ use Rattle.relation.proofs.row.size.Goals as goal
 
 pub overflow_cast-result : goal.overflow_cast-result
 overflow_cast-result c =
-    (let f : Fits w64 c.word.result = search rules in record { fits = omega (arith, ones_few c.word.result f.fits) })
+    let f : Fits w64 c.word.result = search rules in record { fits = omega (arith, ones_few c.word.result f.fits) }
 
 pub returns : goal.returns
 returns c =
-    (let f : Fits w64 c.word.result = search rules in ones_count 64 _ f.fits ∙ ap (count 64) (sym c.word.ensures))
+    let f : Fits w64 c.word.result = search rules in ones_count 64 _ f.fits ∙ ap (count 64) (sym c.word.ensures)

@@ -8,7 +8,7 @@ use borrow.Author.Rules.{rules}
 use Rattle.relation.proofs.row.word.Goals as goal
 
 byte : (c : goal.Start) (k : ℕ) → get_or c.args.row k 0 < 256
-byte c k = (let f : Fits w8 (get_or c.args.row k 0) = search rules in f.fits)
+byte c k = let f : Fits w8 (get_or c.args.row k 0) = search rules in f.fits
 
 pub returns : goal.returns
 returns c = bit_word _ (search rules) (byte c)

@@ -15,7 +15,7 @@ pub sources_of-requires-2 : goal.sources_of-requires-2
 sources_of-requires-2 c = readable _ c.requires.0
 
 pub has-requires : goal.has-requires
-has-requires c = (omega (arith, limits _ c.requires.0, c.requires.2))
+has-requires c = omega (arith, limits _ c.requires.0, c.requires.2)
 
 pub after-requires : goal.after-requires
 after-requires c = (

@@ -8,7 +8,7 @@ pub sources_by_type-h-requires : goal.sources_by_type-h-requires
 sources_by_type-h-requires c = readable _ c.requires.0.source
 
 pub row_of-requires : goal.row_of-requires
-row_of-requires c = (omega (arith, most_events_lem _ c.requires.0.source, c.requires.1.high))
+row_of-requires c = omega (arith, most_events_lem _ c.requires.0.source, c.requires.1.high)
 
 pub returns : goal.returns
 returns c =

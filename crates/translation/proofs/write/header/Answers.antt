@@ -15,7 +15,7 @@ pub bounds-file-2 : goal.bounds-file-2
 bounds-file-2 c = omega (arith, (sized _ c.requires.0).long)
 
 pub overflow_cast-result-2 : goal.overflow_cast-result-2
-overflow_cast-result-2 c = (let pre = c.requires in omega (arith, pre.2, most_links_lem _ pre.0 c.args.n))
+overflow_cast-result-2 c = let pre = c.requires in omega (arith, pre.2, most_links_lem _ pre.0 c.args.n)
 
 pub bounds-file-4 : goal.bounds-file-4
 bounds-file-4 c = omega (arith, (sized _ c.requires.0).long)

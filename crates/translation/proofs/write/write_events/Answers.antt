@@ -11,11 +11,11 @@ use borrow.Author.Rules.{rules}
 use Rattle.translation.proofs.write.write_events.Goals as goal
 
 pub loop-e-init : goal.loop-e-init
-loop-e-init c = (let pre = c.requires in (search rules, events_none pre.0 pre.2 pre.3, pre.1))
+loop-e-init c = let pre = c.requires in (search rules, events_none pre.0 pre.2 pre.3, pre.1)
 
 pub bounds-ends-e : goal.bounds-ends-e
 bounds-ends-e c =
-    (let inv = c.loop-e.invariant.1.counted in omega (arith, c.loop-e-test.true, inv.events, most_events_lem _ inv.source))
+    let inv = c.loop-e.invariant.1.counted in omega (arith, c.loop-e-test.true, inv.events, most_events_lem _ inv.source)
 
 pub event_record-bytes-requires : goal.event_record-bytes-requires
 event_record-bytes-requires c =
@@ -26,7 +26,7 @@ event_record-bytes-requires c =
 
 pub overflow_mul-e : goal.overflow_mul-e
 overflow_mul-e c =
-    (let inv = c.loop-e.invariant.1.counted in omega (arith, c.loop-e-test.true, inv.events, most_events_lem _ inv.source))
+    let inv = c.loop-e.invariant.1.counted in omega (arith, c.loop-e-test.true, inv.events, most_events_lem _ inv.source)
 
 pub put-requires : goal.put-requires
 put-requires c =
@@ -35,7 +35,7 @@ put-requires c =
 
 pub overflow_add-e : goal.overflow_add-e
 overflow_add-e c =
-    (let inv = c.loop-e.invariant.1.counted in omega (arith, c.loop-e-test.true, inv.events, most_events_lem _ inv.source))
+    let inv = c.loop-e.invariant.1.counted in omega (arith, c.loop-e-test.true, inv.events, most_events_lem _ inv.source)
 
 pub loop-e-preserved : goal.loop-e-preserved
 loop-e-preserved c =

@@ -6,11 +6,11 @@ use Rattle.translation.proofs.write.write_into.Goals as goal
 
 pub loop-t-init : goal.loop-t-init
 loop-t-init c =
-    (let pre = c.requires in (search rules, into_none pre.1.source pre.3 pre.4 pre.0, c.rows-rows.ensures))
+    let pre = c.requires in (search rules, into_none pre.1.source pre.3 pre.4 pre.0, c.rows-rows.ensures)
 
 pub write_row-z-requires : goal.write_row-z-requires
 write_row-z-requires c =
-    (let inv = c.loop-t.invariant in into_room inv.1 c.loop-t-test.true (inv.2.row _ c.loop-t-test.true))
+    let inv = c.loop-t.invariant in into_room inv.1 c.loop-t-test.true (inv.2.row _ c.loop-t-test.true)
 
 pub loop-t-preserved : goal.loop-t-preserved
 loop-t-preserved c =

@@ -7,11 +7,11 @@ use borrow.Author.Rules.{rules}
 use Rattle.translation.proofs.write.write_links.Goals as goal
 
 pub loop-b-init : goal.loop-b-init
-loop-b-init c = (let pre = c.requires in (search rules, links_none pre.1.source pre.2 pre.3, pre.0, pre.1))
+loop-b-init c = let pre = c.requires in (search rules, links_none pre.1.source pre.2 pre.3, pre.0, pre.1)
 
 pub bounds-ends-b : goal.bounds-ends-b
 bounds-ends-b c =
-    (let inv = c.loop-b.invariant.1.counted in omega (arith, c.loop-b-test.true, inv.events, most_events_lem _ inv.source))
+    let inv = c.loop-b.invariant.1.counted in omega (arith, c.loop-b-test.true, inv.events, most_events_lem _ inv.source)
 
 pub write_into-z-requires : goal.write_into-z-requires
 write_into-z-requires c =
@@ -21,7 +21,7 @@ write_into-z-requires c =
 
 pub overflow_add-b : goal.overflow_add-b
 overflow_add-b c =
-    (let inv = c.loop-b.invariant.1.counted in omega (arith, c.loop-b-test.true, inv.events, most_events_lem _ inv.source))
+    let inv = c.loop-b.invariant.1.counted in omega (arith, c.loop-b-test.true, inv.events, most_events_lem _ inv.source)
 
 pub loop-b-preserved : goal.loop-b-preserved
 loop-b-preserved c =

@@ -5,4 +5,4 @@ use Rattle.tso.proofs.why.order.Goals as goal
 
 pub returns : goal.returns
 unfolding base_of
-returns c = (c.clauses.ensures (c.fr-fr.ensures (base_of c.args.sets c.args.relations) refl refl))
+returns c = c.clauses.ensures (c.fr-fr.ensures (base_of c.args.sets c.args.relations) refl refl)

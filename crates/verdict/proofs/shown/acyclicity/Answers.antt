@@ -13,10 +13,10 @@ use Rattle.verdict.proofs.shown.acyclicity.Goals as goal
 pub returns-then-first-lt64 : goal.returns-then-first-lt64
 returns-then-first-lt64 c =
     λ M B s e hold p q. let found = c.broken_ring.ensures in
-    shown_5 M B s e _ hold (subst Inside p ((edge_inside _ (search rules)))) (event_found c.first.ensures ((c.diagonal.ensures ∙ ap diagonal (c.closure-reached.ensures ∙ ap (plus nodes) p))) c.if-first-lt64.true)
+    shown_5 M B s e _ hold (subst Inside p (edge_inside _ (search rules))) (event_found c.first.ensures (c.diagonal.ensures ∙ ap diagonal (c.closure-reached.ensures ∙ ap (plus nodes) p)) c.if-first-lt64.true)
     found.answer found.bounded (ring_same p p found.ring)
 
 pub returns : goal.returns
 returns c =
-    λ M B s e hold p q. shown_0 M B s e _ hold (event_none c.first.ensures ((c.diagonal.ensures ∙ ap diagonal (c.closure-reached.ensures ∙ ap (plus nodes) p))) c.if-first-lt64.false)
+    λ M B s e hold p q. shown_0 M B s e _ hold (event_none c.first.ensures (c.diagonal.ensures ∙ ap diagonal (c.closure-reached.ensures ∙ ap (plus nodes) p)) c.if-first-lt64.false)
     (subst (Says c.allowed.result (answers 0)) (ap₂ (λ (r : Rel) (t : Set). order 64 r t) p q) c.allowed.ensures)
