@@ -1,7 +1,10 @@
 -- `ar::psc` meets its contract: from SC fences only, and into them only.
+use mathlib.Core.Path.{refl}
 use Rattle.models.specs.Imm.{psc}
-use Rattle.verdict.proofs.TermLaws.{holds, terms}
+use Rattle.verdict.proofs.TermLaws.{given, holds, is_then, is_set, is_before, is_after, is_assoc}
 use Rattle.imm.proofs.ar.psc.Goals as goal
 
 pub returns : goal.returns
-returns c = λ B f h k. holds B psc (search terms depth 12)
+returns c =
+    λ B f h k. let last = is_then c.then-last.ensures (given k) (is_after _ c.into.ensures (given h) (is_set refl f)) in
+    holds B psc (is_assoc (is_then c.then.ensures (is_before _ c.from.ensures (is_set refl f) (given h)) last))
