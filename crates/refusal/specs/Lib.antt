@@ -1,0 +1,2 @@
+-- The definitions that the contracts of `refusal` cite.
+pub mod Refusal
