@@ -1,6 +1,6 @@
 -- Rings: what a ring of a relation is, which are the shortest, and what the ring routine answers (01, "What is shown"; 02, slip 5).
 -- A ring's closing step may be of another relation than its other steps.
-use Rattle.std.specs.Prelude.{◌≡◌, List, true, false, ℕ, zero, suc, ◌+◌, ◌-◌, ◌<◌, ◌≤◌, ltb, length, get_or}
+use Rattle.std.specs.Prelude.{◌≡◌, List, true, false, ℕ, zero, suc, ◌+◌, ◌-◌, ◌<◌, ◌≤◌, ltb, length, get_or, Option, Some, None}
 use Rattle.relation.specs.Rel.{Rel, Set, either, image, compose, inverse, plus, identity, nodes}
 
 -- The event that follows position k of a ring: the first event follows the last.
@@ -48,6 +48,11 @@ pub record Shortest (r e : Rel) (n s : ℕ) : Type 0 where
   pub inside : n < 64 → s < 64
   pub closes : n < 64 → compose nodes (power n r) e s s ≡ true
   pub fewest : (m : ℕ) → m < n → (t : ℕ) → compose nodes (power m r) e t t ≡ false
+
+-- s is where the fewest such steps start, and None where no ring is closed.
+abbrev pub ShortestOrNone : Rel → Rel → Option Start → Type 0
+ShortestOrNone r e None = Shortest r e 64 64
+ShortestOrNone r e (Some s) = Shortest r e s.steps s.event × (s.steps < 64)
 
 -- Each row of h but the first holds what leads there, by b backward, from the row before it.
 pub record Levels (h b : Rel) : Type 0 where

@@ -46,49 +46,36 @@ pub fn with(g: Grid, i: usize, j: usize) -> Grid
     h
 }
 
+// The relation whose row of each event is made of its rows in a and b.
+fn row_by_row<F: Fn(Row, Row) -> Row>(a: Grid, b: Grid, join: F) -> Grid
+    requires { F.IsAlwaysCallable join }
+{
+    let mut h = a;
+    for i in 0..64 {
+        h[i] = join(a[i], b[i]);
+    }
+    h
+}
+
 // Union.
 pub fn or(a: Grid, b: Grid) -> Grid
     ensures { edge result ≡ either (edge a) (edge b) }
 {
-    let mut h = a;
-    let mut i: usize = 0;
-    while i < 64 {
-        let x = a[i];
-        let y = b[i];
-        h[i] = row::or(x, y);
-        i += 1;
-    }
-    h
+    row_by_row(a, b, row::or)
 }
 
 // Intersection.
 pub fn and(a: Grid, b: Grid) -> Grid
     ensures { edge result ≡ both (edge a) (edge b) }
 {
-    let mut h = a;
-    let mut i: usize = 0;
-    while i < 64 {
-        let x = a[i];
-        let y = b[i];
-        h[i] = row::and(x, y);
-        i += 1;
-    }
-    h
+    row_by_row(a, b, row::and)
 }
 
 // Difference.
 pub fn minus(a: Grid, b: Grid) -> Grid
     ensures { edge result ≡ minus (edge a) (edge b) }
 {
-    let mut h = a;
-    let mut i: usize = 0;
-    while i < 64 {
-        let x = a[i];
-        let y = b[i];
-        h[i] = row::minus(x, y);
-        i += 1;
-    }
-    h
+    row_by_row(a, b, row::minus)
 }
 
 // What g reaches from s in one step.
@@ -96,12 +83,8 @@ pub fn image(s: Row, g: Grid) -> Row
     ensures { bit result ≡ image nodes (bit s) (edge g) }
 {
     let mut r = row::none();
-    let mut i = row::first(s);
-    while i < 64 {
-        let x = g[i];
-        let z = row::or(r, x);
-        r = z;
-        i = row::next(s, i + 1);
+    for i in row::members(s) {
+        r = row::or(r, g[i]);
     }
     r
 }
@@ -110,23 +93,9 @@ pub fn image(s: Row, g: Grid) -> Row
 pub fn then(a: Grid, b: Grid) -> Grid
     ensures { edge result ≡ compose nodes (edge a) (edge b) }
 {
-    let mut h = a;
-    let mut r = row::none();
-    let mut i: usize = 0;
-    let mut j: usize = 0;
-    while i < 64 {
-        let x = a[i];
-        let none = row::none();
-        r = none;
-        j = row::first(x);
-        while j < 64 {
-            let y = b[j];
-            let z = row::or(r, y);
-            r = z;
-            j = row::next(x, j + 1);
-        }
-        h[i] = r;
-        i += 1;
+    let mut h = empty();
+    for i in 0..64 {
+        h[i] = image(a[i], b);
     }
     h
 }
@@ -136,13 +105,10 @@ pub fn identity(s: Row) -> Grid
     ensures { edge result ≡ identity (bit s) }
 {
     let mut h = empty();
-    let mut i: usize = 0;
-    while i < 64 {
+    for i in 0..64 {
         if row::has(s, i) {
-            let x = row::none();
-            h[i] = row::with(x, i);
+            h[i] = row::with(row::none(), i);
         }
-        i += 1;
     }
     h
 }
@@ -152,12 +118,10 @@ pub fn product(s: Row, t: Row) -> Grid
     ensures { edge result ≡ product (bit s) (bit t) }
 {
     let mut h = empty();
-    let mut i: usize = 0;
-    while i < 64 {
+    for i in 0..64 {
         if row::has(s, i) {
             h[i] = t;
         }
-        i += 1;
     }
     h
 }
@@ -167,13 +131,10 @@ pub fn from(s: Row, g: Grid) -> Grid
     ensures { edge result ≡ from (bit s) (edge g) }
 {
     let mut h = empty();
-    let mut i: usize = 0;
-    while i < 64 {
+    for i in 0..64 {
         if row::has(s, i) {
-            let x = g[i];
-            h[i] = x;
+            h[i] = g[i];
         }
-        i += 1;
     }
     h
 }
@@ -183,11 +144,8 @@ pub fn into(g: Grid, s: Row) -> Grid
     ensures { edge result ≡ into (edge g) (bit s) }
 {
     let mut h = g;
-    let mut i: usize = 0;
-    while i < 64 {
-        let x = g[i];
-        h[i] = row::and(x, s);
-        i += 1;
+    for i in 0..64 {
+        h[i] = row::and(g[i], s);
     }
     h
 }
@@ -198,14 +156,10 @@ pub fn column(g: Grid, j: usize) -> Row
     ensures { bit result ≡ inverse (edge g) j }
 {
     let mut r = row::none();
-    let mut i: usize = 0;
-    while i < 64 {
-        let x = g[i];
-        if row::has(x, j) {
-            let z = row::with(r, i);
-            r = z;
+    for i in 0..64 {
+        if row::has(g[i], j) {
+            r = row::with(r, i);
         }
-        i += 1;
     }
     r
 }
@@ -215,17 +169,10 @@ pub fn inverse(g: Grid) -> Grid
     ensures { edge result ≡ inverse (edge g) }
 {
     let mut h = empty();
-    let mut i: usize = 0;
-    let mut j: usize = 0;
-    while i < 64 {
-        let x = g[i];
-        j = row::first(x);
-        while j < 64 {
-            let y = h[j];
-            h[j] = row::with(y, i);
-            j = row::next(x, j + 1);
+    for i in 0..64 {
+        for j in row::members(g[i]) {
+            h[j] = row::with(h[j], i);
         }
-        i += 1;
     }
     h
 }
@@ -235,14 +182,10 @@ pub fn diagonal(g: Grid) -> Row
     ensures { bit result ≡ diagonal (edge g) }
 {
     let mut r = row::none();
-    let mut i: usize = 0;
-    while i < 64 {
-        let x = g[i];
-        if row::has(x, i) {
-            let z = row::with(r, i);
-            r = z;
+    for i in 0..64 {
+        if row::has(g[i], i) {
+            r = row::with(r, i);
         }
-        i += 1;
     }
     r
 }
@@ -252,15 +195,10 @@ pub fn returning(a: Grid, b: Grid) -> Row
     ensures { bit result ≡ diagonal (compose nodes (edge a) (inverse (edge b))) }
 {
     let mut r = row::none();
-    let mut i: usize = 0;
-    while i < 64 {
-        let x = a[i];
-        let y = b[i];
-        if row::first(row::and(x, y)) < 64 {
-            let z = row::with(r, i);
-            r = z;
+    for i in 0..64 {
+        if !row::is_empty(row::and(a[i], b[i])) {
+            r = row::with(r, i);
         }
-        i += 1;
     }
     r
 }
@@ -277,19 +215,14 @@ pub fn closure(g: Grid) -> Grid
     ensures { edge result ≡ plus nodes (edge g) }
 {
     let mut h = g;
-    let mut k: usize = 0;
-    let mut i: usize = 0;
-    while k < 64 {
+    for k in 0..64 {
         let y = h[k];
-        if row::first(y) < 64 {
-            i = 0;
-            while i < 64 {
+        if !row::is_empty(y) {
+            for i in 0..64 {
                 let x = h[i];
                 h[i] = row::or(x, row::given(row::has(x, k), y));
-                i += 1;
             }
         }
-        k += 1;
     }
     h
 }

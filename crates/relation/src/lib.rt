@@ -8,9 +8,7 @@ pub mod order;
 pub mod ring;
 pub mod row;
 
-// A list of event numbers: the first len of at.
-#[derive(Clone, Copy)]
-pub struct Sequence {
-    pub at: [u8; 64],
-    pub len: usize,
-}
+use arrayvec::ArrayVec;
+
+// A list of event numbers.
+pub type Events = ArrayVec<u8, 64>;

@@ -1,40 +1,39 @@
 // The order in which events are shown: always next the smallest whose predecessors are out.
 
-ghost use Rattle.std.specs.Prelude.{◌≡◌, ◌≤◌, take};
+ghost use Rattle.std.specs.Prelude.{◌≡◌, ◌≤◌};
+ghost use Rattle.arrayvec.specs.ArrayVec.{array_vec_len};
 ghost use Rattle.relation.specs.Bits.{bit, edge};
 ghost use Rattle.relation.specs.Order.{order};
 
 use crate::grid::Grid;
 use crate::row::Row;
-use crate::{Sequence, grid, row};
+use crate::{Events, grid, row};
 
 // The events of s in that order; those that come out are all of them where g has no ring.
-pub fn order(g: Grid, s: Row) -> Sequence
-    ensures bounded { result.len ≤ 64 }
-    ensures ordered { take result.len result.at ≡ order 64 (edge g) (bit s) }
+pub fn order(g: Grid, s: Row) -> Events
+    ensures bounded { array_vec_len result ≤ 64 }
+    ensures ordered { result.items ≡ order 64 (edge g) (bit s) }
 {
     let before = grid::inverse(g);
     let mut left = s;
-    let mut at = [0u8; 64];
-    let mut n: usize = 0;
-    let mut k: usize = 0;
-    while n < 64 {
-        // the smallest event left that none left precedes, or 64
-        k = row::first(left);
-        while k < 64 {
-            let p = before[k];
-            if row::first(row::and(p, left)) == 64 {
-                break;
-            }
-            k = row::next(left, k + 1);
-        }
-        if 64 <= k {
-            return Sequence { at, len: n };
-        }
-        at[n] = k as u8;
-        let z = row::without(left, k);
-        left = z;
-        n += 1;
+    let mut events = Events::new();
+    for _ in 0..64 {
+        // the smallest event left that none left precedes
+        let Some(k) = next_of(before, left) else {
+            return events;
+        };
+        events.push(k as u8);
+        left = row::without(left, k);
     }
-    Sequence { at, len: n }
+    events
+}
+
+// The smallest of the events left that none of them precedes, where there is one.
+fn next_of(before: Grid, left: Row) -> Option<usize> {
+    for k in row::members(left) {
+        if row::is_empty(row::and(before[k], left)) {
+            return Some(k);
+        }
+    }
+    None
 }

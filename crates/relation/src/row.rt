@@ -1,7 +1,7 @@
 // A set of events as a row of eight bytes, one bit per event: event j is bit j % 8 of byte j / 8.
 
-ghost use Rattle.std.specs.Prelude.{◌≡◌, ◌<◌, ◌≤◌};
-ghost use Rattle.relation.specs.Rel.{empty, single, given, union, intersection, difference, least, count, Next};
+ghost use Rattle.std.specs.Prelude.{◌≡◌, not, ◌<◌, ◌≤◌};
+ghost use Rattle.relation.specs.Rel.{empty, single, given, union, intersection, difference, smallest, some, nodes, count};
 ghost use Rattle.relation.specs.Bits.{on, bit, byte_or};
 ghost use Rattle.relation.specs.Ring.{under};
 
@@ -127,26 +127,22 @@ pub fn minus(a: Row, b: Row) -> Row
     bytes(w ^ (w & word(b)))
 }
 
-// The smallest member, or 64 where there is none.
-pub fn first(row: Row) -> usize
-    ensures { result ≡ least 64 (bit row) }
+// The smallest member, where there is one.
+pub fn first(row: Row) -> Option<usize>
+    ensures { result ≡ smallest (bit row) }
 {
-    u64::trailing_zeros(word(row)) as usize
+    let w = word(row);
+    if w == 0 {
+        return None;
+    }
+    Some(w.trailing_zeros() as usize)
 }
 
-// The smallest member that is i or more, or 64 where there is none.
-pub fn next(row: Row, i: usize) -> usize
-    requires { i ≤ 64 }
-    ensures { Next (bit row) i result }
+// Whether no number is a member.
+pub fn is_empty(row: Row) -> bool
+    ensures { result ≡ not (some nodes (bit row)) }
 {
-    if i == 64 {
-        return 64;
-    }
-    let n = i + (u64::trailing_zeros(word(row) >> i) as usize);
-    if n < 64 {
-        return n;
-    }
-    64
+    word(row) == 0
 }
 
 // How many members there are.
@@ -154,4 +150,25 @@ pub fn size(row: Row) -> usize
     ensures { result ≡ count 64 (bit row) }
 {
     u64::count_ones(word(row)) as usize
+}
+
+// The members of a set, the smallest first.
+pub fn members(row: Row) -> MemberIter {
+    MemberIter { rest: row }
+}
+
+// Goes over the members of a set, the smallest first.
+#[derive(Clone, Copy)]
+pub struct MemberIter {
+    rest: Row,
+}
+
+impl Iterator for MemberIter {
+    type Item = usize;
+
+    fn next(&mut self) -> Option<usize> {
+        let j = first(self.rest)?;
+        self.rest = without(self.rest, j);
+        Some(j)
+    }
 }
