@@ -1,29 +1,21 @@
 -- What loading answers (01, "Causes of refusal"): the number of the first cause, or the header.
-use Rattle.std.specs.Prelude.{◌≡◌, Bool, not, List, [], ◌∷◌, ◌++◌, ℕ, zero, suc}
+use Rattle.std.specs.Prelude.{◌≡◌, Bool, not, List, [], ◌∷◌, ◌++◌, ℕ, Result, IfOk}
 use Rattle.std.specs.Bool.{beq}
 use Rattle.models.specs.Rules.{first}
 use Rattle.layout.specs.Layout.{Side, side, events, locations, links}
 use Rattle.recording.specs.Causes.{causes, refusal}
 use Rattle.recording.specs.declared.Header.{Header}
-use Rattle.recording.specs.declared.Load.{Load}
-use Rattle.recording.specs.declared.Load.TheVariants.{Refused, Loaded}
+use Rattle.refusal.specs.declared.Refusal.{Refusal}
+use Rattle.refusal.specs.Refusal.{number_of}
 
 -- What a file's header says.
 abbrev pub header_of : List ℕ → Header
 header_of f = record { source = side f; events = events f; locations = locations f; links = links f }
 
--- Refused with the number where a cause applies, loaded where none does.
-unfoldable pub answer : ℕ → Header → Load
-answer zero h = Loaded h
-answer (suc n) h = Refused (suc n)
-
-unfoldable pub load_of : List ℕ → Load
-load_of f = answer (refusal f) (header_of f)
-
--- The number that a loaded or refused answer stands for: that of the cause, and 0 where it loads.
-unfoldable pub number_of : Load → ℕ
-number_of (Refused k) = k
-number_of (Loaded h) = 0
+-- What loading answers: the refusal with the number of the first cause that applies, and the header where none does.
+pub record Loads (f : List ℕ) (r : Result Header Refusal) : Type 0 where
+  pub refused : number_of r ≡ refusal f
+  pub loaded : IfOk r (λ h. h ≡ header_of f)
 
 -- The file loads, and is of that side.
 pub record LoadsAs (s : Side) (f : List ℕ) : Type 0 where

@@ -10,12 +10,14 @@ ghost use Rattle.layout.specs.Chains.{each};
 ghost use Rattle.layout.specs.Decode.{decode};
 ghost use Rattle.reading.specs.Readable.{Readable, Chained};
 ghost use Rattle.recording.specs.Causes.{too_long, links_sound_at, paired_at, header_over, header_causes, record_causes, link_causes, bad_threads, long_thread, bad_chains, co_ring};
-ghost use Rattle.recording.specs.Load.{header_of, load_of, number_of, cause_for};
+ghost use Rattle.refusal.specs.Refusal.{number_of};
+ghost use Rattle.recording.specs.Load.{header_of, Loads, cause_for};
 
-use crate::{Header, Load, legal, links};
+use crate::{Header, legal, links};
 use layout::{chain, field, kind};
 use reading::{graph, thread};
 use relation::grid::Grid;
+use refusal::Refusal;
 use relation::{grid, row};
 
 // Whether all links are sound.
@@ -42,7 +44,7 @@ pub fn paired_at(file: &[u8], e: usize) -> bool
     if !field::is_flagged(file, e, 2) {
         return true;
     }
-    row::first(graph::sources_of(file, e, 3)) < 64
+    !row::is_empty(graph::sources_of(file, e, 3))
 }
 
 // Whether every strong write has an rmw.
@@ -67,7 +69,7 @@ pub fn co_ring(file: &[u8]) -> bool
     ensures { result ≡ co_ring file.now }
 {
     let reached = grid::closure(graph::link_rows(file, 2));
-    row::first(grid::diagonal(reached)) < 64
+    !row::is_empty(grid::diagonal(reached))
 }
 
 // Whether the thread chains meet every event once: four heads from byte 4 on, event records of 8 bytes from byte 8 on.
@@ -114,41 +116,41 @@ pub fn chains_sound(file: &[u8]) -> bool
     chain::once_each(file, 15, 8, n, 8 + 8 * n, 4, m)
 }
 
-// The first of the causes of the records and their chains, 5, 6, 13 and 7, that applies, or 0.
-pub fn record_refusal(file: &[u8]) -> u8
+// Refused with the first of the causes of the records and their chains, 5, 6, 13 and 7, that applies.
+pub fn record_refusal(file: &[u8]) -> Result<(), Refusal>
     requires { Sized file.now }
-    ensures { result ≡ first (record_causes file.now) }
+    ensures { number_of result ≡ first (record_causes file.now) }
 {
     if !legal::events_legal(file) {
-        return 5;
+        return Err(Refusal::BadEvent);
     }
     if !threads_sound(file) {
-        return 6;
+        return Err(Refusal::BadThreads);
     }
     if long_thread(file) {
-        return 13;
+        return Err(Refusal::LongThread);
     }
     if !chains_sound(file) {
-        return 7;
+        return Err(Refusal::BadChains);
     }
-    0
+    Ok(())
 }
 
-// The first of the causes of the links, 8 to 10, that applies, or 0.
-pub fn link_refusal(file: &[u8]) -> u8
+// Refused with the first of the causes of the links, 8 to 10, that applies.
+pub fn link_refusal(file: &[u8]) -> Result<(), Refusal>
     requires { Sized file.now × (first (record_causes file.now) ≡ 0) }
-    ensures { result ≡ first (link_causes file.now) }
+    ensures { number_of result ≡ first (link_causes file.now) }
 {
     if !links_sound(file, graph::program_order(file)) {
-        return 8;
+        return Err(Refusal::BadLink);
     }
     if co_ring(file) {
-        return 9;
+        return Err(Refusal::CoRing);
     }
     if !paired(file) {
-        return 10;
+        return Err(Refusal::Unpaired);
     }
-    0
+    Ok(())
 }
 
 // Whether N, L or M is over its limit.
@@ -164,28 +166,28 @@ pub fn over_limit(source: bool, n: usize, l: usize, m: usize) -> bool
     kind::most_links(source) < m
 }
 
-// The first of the causes of the header and the length, 1 to 4, that applies, or 0.
-pub fn header_refusal(file: &[u8]) -> u8
-    ensures cause { result ≡ first (header_causes file.now) }
-    ensures sized { result ≡ 0 → Sized file.now }
+// Refused with the first of the causes of the header and the length, 1 to 4, that applies.
+pub fn header_refusal(file: &[u8]) -> Result<(), Refusal>
+    ensures cause { number_of result ≡ first (header_causes file.now) }
+    ensures sized { number_of result ≡ 0 → Sized file.now }
 {
     if file.len() < 8 {
-        return 1;
+        return Err(Refusal::TooShort);
     }
     let kind = file[0] as usize;
     if !kind::known(kind) {
-        return 2;
+        return Err(Refusal::KindUnknown);
     }
     let n = file[1] as usize;
     let l = file[2] as usize;
     let m = file[3] as usize;
     if over_limit(kind::side_of(kind), n, l, m) {
-        return 3;
+        return Err(Refusal::OverLimit);
     }
     if file.len() != 8 + 8 * n + 4 * m {
-        return 4;
+        return Err(Refusal::WrongLength);
     }
-    0
+    Ok(())
 }
 
 // What the header says.
@@ -201,46 +203,23 @@ pub fn header(file: &[u8]) -> Header
     }
 }
 
-// Loads a file: refused with the number of the first cause that applies, or loaded with its header.
-pub fn load(file: &[u8]) -> Load
-    ensures { result ≡ load_of file.now }
+// Loads a file: refused with the first cause that applies, or loaded with its header.
+pub fn load(file: &[u8]) -> Result<Header, Refusal>
+    ensures { Loads file.now result }
 {
-    let k = header_refusal(file);
-    if k != 0 {
-        return Load::Refused(k);
-    }
-    let j = record_refusal(file);
-    if j != 0 {
-        return Load::Refused(j);
-    }
-    let i = link_refusal(file);
-    if i != 0 {
-        return Load::Refused(i);
-    }
-    Load::Loaded(header(file))
+    header_refusal(file)?;
+    record_refusal(file)?;
+    link_refusal(file)?;
+    Ok(header(file))
 }
 
-// The number of a refusal.
-pub fn number(answer: Load) -> u8
-    ensures { result ≡ number_of answer }
+// Whether a file loads and is of this side: refused as loading does, and with 11 where it is of the other side.
+pub fn loads_as(file: &[u8], source: bool) -> Result<(), Refusal>
+    ensures { number_of result ≡ cause_for source file.now }
 {
-    match answer {
-        Load::Refused(k) => k,
-        Load::Loaded(_) => 0,
+    let header = load(file)?;
+    if header.source != source {
+        return Err(Refusal::OtherSide);
     }
-}
-
-// The number that a call meant for files of this side gives, or 0 where the file loads and is of this side.
-pub fn cause(file: &[u8], source: bool) -> u8
-    ensures { result ≡ cause_for source file.now }
-{
-    let answer = load(file);
-    let Load::Loaded(h) = answer else {
-        return number(answer);
-    };
-    let own = h.source;
-    if own != source {
-        return 11;
-    }
-    0
+    Ok(())
 }

@@ -17,10 +17,3 @@ pub struct Header {
 
 // A program reads at most so many bytes of its input: one more than the longest file that loads has (specs/Input.antt).
 pub const INPUT: usize = 1413;
-
-// What loading answers.
-#[derive(Clone, Copy)]
-pub enum Load {
-    Refused(u8),
-    Loaded(Header),
-}

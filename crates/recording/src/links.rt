@@ -21,11 +21,7 @@ use relation::row::Row;
 pub fn one_source(row: Row) -> bool
     ensures { (r : Recording ℕ) (b : ℕ) → bit row ≡ inverse (r.link 1) b → result ≡ one_source r b }
 {
-    let a = row::first(row);
-    if 64 <= a {
-        return true;
-    }
-    row::first(row::without(row, a)) == 64
+    row::size(row) <= 1
 }
 
 // Whether the links into b are sound, and b has one rf source, where po is program order.

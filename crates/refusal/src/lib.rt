@@ -46,3 +46,15 @@ impl Refusal {
         }
     }
 }
+
+ghost use Rattle.refusal.specs.Refusal.{number_of};
+
+// The number of the refusal that an answer is, and 0 of one that is none.
+pub fn number_of<T>(answer: &Result<T, Refusal>) -> u8
+    ensures { result ≡ number_of answer.now }
+{
+    match answer {
+        Ok(_) => 0,
+        Err(refusal) => refusal.number(),
+    }
+}
