@@ -16,6 +16,5 @@ pub record Starts (f starts : List ℕ) (n : ℕ) : Type 0 where
 
 -- The numbers in `at` are the line of all threads, and `starts` says where each begins.
 pub record Table (f at starts : List ℕ) : Type 0 where
-  pub len : ℕ
-  pub line : Line f threads len at
+  pub line : Line f threads at
   pub begins : Starts f starts threads

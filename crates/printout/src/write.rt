@@ -21,12 +21,12 @@ pub const LINE: usize = WIDTH * BLOCKS + 1;
 fn block_at(
     file: &[u8],
     stars: Row,
-    at: [u8; 64],
+    at: &[u8],
     starts: [u8; STARTS],
     t: usize,
     k: usize,
 ) -> [u8; WIDTH]
-    requires { (refusal file.now ≡ 0) × Table file.now at starts × (t < threads) × (k < 18) }
+    requires { (refusal file.now ≡ 0) × Table file.now at.now starts × (t < threads) × (k < 18) }
     ensures { (ring : List ℕ) → Members ring stars → result ≡ block_at (decode file.now) ring k (thread file.now t) }
 {
     let i = starts[t] as usize + k;
@@ -37,8 +37,8 @@ fn block_at(
 }
 
 // Writes line k behind those before it.
-fn line(out: &mut [u8], file: &[u8], stars: Row, at: [u8; 64], starts: [u8; STARTS], k: usize)
-    requires { (refusal file.now ≡ 0) × Table file.now at starts × (k < 18) × (line_size threads * (k + 1) ≤ length out.old) }
+fn line(out: &mut [u8], file: &[u8], stars: Row, at: &[u8], starts: [u8; STARTS], k: usize)
+    requires { (refusal file.now ≡ 0) × Table file.now at.now starts × (k < 18) × (line_size threads * (k + 1) ≤ length out.old) }
     ensures long { length out.new ≡ length out.old }
     ensures line { (ring : List ℕ) → Members ring stars → out.new ≡ placed out.old (line_size threads * k) (line (decode file.now) ring k (thread_lists file.now threads)) }
 {
@@ -52,8 +52,8 @@ fn line(out: &mut [u8], file: &[u8], stars: Row, at: [u8; 64], starts: [u8; STAR
 }
 
 // Writes the first n lines.
-pub fn lines(out: &mut [u8], file: &[u8], stars: Row, at: [u8; 64], starts: [u8; STARTS], n: usize)
-    requires { (refusal file.now ≡ 0) × Table file.now at starts × (n ≤ 18) × (line_size threads * n ≤ length out.old) }
+pub fn lines(out: &mut [u8], file: &[u8], stars: Row, at: &[u8], starts: [u8; STARTS], n: usize)
+    requires { (refusal file.now ≡ 0) × Table file.now at.now starts × (n ≤ 18) × (line_size threads * n ≤ length out.old) }
     ensures { (ring : List ℕ) → Members ring stars → out.new ≡ placed out.old 0 (lines (decode file.now) ring n (thread_lists file.now threads)) }
 {
     let mut k: usize = 0;

@@ -43,6 +43,6 @@ pub record LinkRows (f : List ℕ) (grids : List (List (List ℕ))) : Type 0 whe
   pub grid : (t : ℕ) → 1 ≤ t → t < 8 → edge (get_or grids t []) ≡ inverse ((decode f).link t)
 
 -- The first len of `at` are the events of the first n threads, each thread in its order, one thread behind the other.
-pub record Line (f : List ℕ) (n len : ℕ) (at : List ℕ) : Type 0 where
-  pub bounded : len ≤ 64
-  pub listed : take len at ≡ threads_up_to f n
+pub record Line (f : List ℕ) (n : ℕ) (events : List ℕ) : Type 0 where
+  pub bounded : length events ≤ 64
+  pub listed : events ≡ threads_up_to f n

@@ -24,12 +24,9 @@ pub fn program_order(file: &[u8]) -> Grid
     ensures { edge result ≡ (base nodes (decode file.now)).po }
 {
     let line = thread::line(file);
-    let at = line.at;
     let mut h = grid::product(sets::initial(file), sets::recorded(file));
-    let mut k = line.len;
-    while 0 < k {
-        k -= 1;
-        let e = at[k] as usize;
+    for event in line.as_slice().iter().rev() {
+        let e = *event as usize;
         let b = field::event_byte(file, e, 0);
         if b != 0 {
             let later = h[b];

@@ -32,14 +32,12 @@ pub fn sorted(file: &[u8], row: Row, k: usize) -> [Row; 8]
     ensures { SortedBy file.now (bit row) k result }
 {
     let mut h = [[0u8; 8]; 8];
-    let mut e = row::first(row);
-    while e < 64 {
+    for e in row::members(row) {
         let v = field::event_byte(file, e, k);
         if v < 8 {
             let x = h[v];
             h[v] = row::with(x, e);
         }
-        e = row::next(row, e + 1);
     }
     h
 }

@@ -7,7 +7,7 @@ ghost use Rattle.reading.specs.Sets.{Line};
 
 use layout::chain::Cursor;
 use layout::{chain, field};
-use relation::Sequence;
+use relation::Events;
 
 // How many events thread t has, from 0.
 pub fn length_of(file: &[u8], t: usize) -> usize
@@ -19,36 +19,28 @@ pub fn length_of(file: &[u8], t: usize) -> usize
 }
 
 // The line of the first t threads with the events of thread t behind it.
-pub fn along(file: &[u8], t: usize, line: Sequence) -> Sequence
-    requires { Sized file.now × (threads_sound file.now ≡ true) × (t < threads) × Line file.now t line.len line.at }
-    ensures { Line file.now (t + 1) result.len result.at }
+pub fn along(file: &[u8], t: usize, line: Events) -> Events
+    requires { Sized file.now × (threads_sound file.now ≡ true) × (t < threads) × Line file.now t line.items }
+    ensures { Line file.now (t + 1) result.items }
 {
+    let mut events = line;
     let mut cursor = Cursor::start(file, 4, 1, t);
-    let mut at = line.at;
-    let mut len = line.len;
     while cursor.at != 0 {
-        at[len] = cursor.at as u8;
-        len += 1;
+        events.push(cursor.at as u8);
         let next = cursor.moved(file, 8, 8);
         cursor = next;
     }
-    Sequence { at, len }
+    events
 }
 
 // The events of all threads, each thread in its order, one thread behind the other.
-pub fn line(file: &[u8]) -> Sequence
+pub fn line(file: &[u8]) -> Events
     requires { Sized file.now × (threads_sound file.now ≡ true) }
-    ensures { Line file.now threads result.len result.at }
+    ensures { Line file.now threads result.items }
 {
-    let mut r = Sequence {
-        at: [0u8; 64],
-        len: 0,
-    };
-    let mut t: usize = 0;
-    while t < 4 {
-        let more = along(file, t, r);
-        r = more;
-        t += 1;
+    let mut events = Events::new();
+    for t in 0..4 {
+        events = along(file, t, events);
     }
-    r
+    events
 }
