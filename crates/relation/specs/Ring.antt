@@ -1,6 +1,7 @@
 -- Rings: what a ring of a relation is, which are the shortest, and what the ring routine answers (01, "What is shown"; 02, slip 5).
 -- A ring's closing step may be of another relation than its other steps.
 use Rattle.std.specs.Prelude.{◌≡◌, List, true, false, ℕ, zero, suc, ◌+◌, ◌-◌, ◌<◌, ◌≤◌, ltb, length, get_or, Option, Some, None}
+use Rattle.relation.specs.declared.ring.Start.{Start}
 use Rattle.relation.specs.Rel.{Rel, Set, either, image, compose, inverse, plus, identity, nodes}
 
 -- The event that follows position k of a ring: the first event follows the last.
@@ -73,18 +74,17 @@ pub record Way (r e : Rel) (s n : ℕ) (at : List ℕ) : Type 0 where
   pub close : e (get_or at n zero) s ≡ true
 
 -- m is the place of a smallest of the first n.
-pub record SmallestAt (at : List ℕ) (n m : ℕ) : Type 0 where
-  pub inside : m < n
-  pub least : (k : ℕ) → k < n → get_or at m zero ≤ get_or at k zero
+pub record SmallestAt (at : List ℕ) (m : ℕ) : Type 0 where
+  pub inside : m < length at
+  pub least : (k : ℕ) → k < length at → get_or at m zero ≤ get_or at k zero
 
 -- The index that comes to k when n places are rotated left by m.
 unfoldable pub turned_to : ℕ → ℕ → ℕ → ℕ
 turned_to k m n = elim (ltb (k + m) n) [ true ↦ k + m | false ↦ k + m - n ]
 
--- `out` is the first n of `at`, rotated left so that a smallest stands first.
-pub record Turned (at : List ℕ) (n len : ℕ) (out : List ℕ) : Type 0 where
-  pub same : len ≡ n
-  pub long : length out ≡ 64
+-- `out` is `at`, rotated left so that a smallest stands first.
+pub record Turned (at out : List ℕ) : Type 0 where
+  pub same : length out ≡ length at
   pub shift : ℕ
-  pub front : SmallestAt at n shift
-  pub each : (k : ℕ) → k < n → get_or out k zero ≡ get_or at (turned_to k shift n) zero
+  pub front : SmallestAt at shift
+  pub each : (k : ℕ) → k < length at → get_or out k zero ≡ get_or at (turned_to k shift (length at)) zero

@@ -84,7 +84,8 @@ pub fn image(s: Row, g: Grid) -> Row
 {
     let mut r = row::none();
     for i in row::members(s) {
-        r = row::or(r, g[i]);
+        let z = row::or(r, g[i]);
+        r = z;
     }
     r
 }
@@ -158,7 +159,8 @@ pub fn column(g: Grid, j: usize) -> Row
     let mut r = row::none();
     for i in 0..64 {
         if row::has(g[i], j) {
-            r = row::with(r, i);
+            let z = row::with(r, i);
+            r = z;
         }
     }
     r
@@ -184,7 +186,8 @@ pub fn diagonal(g: Grid) -> Row
     let mut r = row::none();
     for i in 0..64 {
         if row::has(g[i], i) {
-            r = row::with(r, i);
+            let z = row::with(r, i);
+            r = z;
         }
     }
     r
@@ -197,7 +200,8 @@ pub fn returning(a: Grid, b: Grid) -> Row
     let mut r = row::none();
     for i in 0..64 {
         if !row::is_empty(row::and(a[i], b[i])) {
-            r = row::with(r, i);
+            let z = row::with(r, i);
+            r = z;
         }
     }
     r

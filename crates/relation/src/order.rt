@@ -23,7 +23,8 @@ pub fn order(g: Grid, s: Row) -> Events
             return events;
         };
         events.push(k as u8);
-        left = row::without(left, k);
+        let z = row::without(left, k);
+        left = z;
     }
     events
 }

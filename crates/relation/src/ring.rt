@@ -28,7 +28,8 @@ pub fn shortest(g: Grid, e: Grid) -> Option<Start>
         if let Some(event) = row::first(grid::returning(p, back)) {
             return Some(Start { steps, event });
         }
-        p = grid::then(p, g);
+        let z = grid::then(p, g);
+        p = z;
     }
     None
 }
@@ -42,7 +43,8 @@ pub fn levels(g: Grid, s: usize) -> Grid
     let mut x = row::with(row::none(), s);
     for k in 0..64 {
         h[k] = x;
-        x = grid::image(x, g);
+        let z = grid::image(x, g);
+        x = z;
     }
     h
 }

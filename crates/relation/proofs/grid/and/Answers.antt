@@ -1,19 +1,8 @@
--- `grid::and` meets its contract, row by row.
-use mathlib.Core.Path.{refl}
-use Rattle.relation.specs.Rel.{empty, intersection, both}
-use Rattle.relation.specs.Bits.{edge}
-use Rattle.relation.proofs.GridLaws.{mapped_start, mapped_more, mapped_all}
-use borrow.Author.Rules.{rules}
+use Rattle.std.proofs.Common.{rules, ◌≡◌, ◌<◌, ℕ, ◌+◌, ◌-◌, ◌*◌, ◌≤◌, length, ◌/◌, ◌%◌, Bool, true, false, nat_eq, nat_lt, List, [], ◌∷◌, ◌++◌, slice_index_or, slice_set, bit_and, bit_or, Fits, w8, w32, w64, Bor, MutBor}
+use Rattle.relation.specs.Rel.{none, pair, either, both, minus, inverse, identity, product, from, into, image, compose, plus, optional, star, diagonal, nodes}
+use Rattle.relation.specs.Bits.{bit, edge}
 use Rattle.relation.proofs.grid.and.Goals as goal
 
-pub loop-i-init : goal.loop-i-init
-unfolding intersection empty
-loop-i-init c = mapped_start (search rules) (λ m h. refl)
-
-pub loop-i-preserved : goal.loop-i-preserved
-unfolding edge
-loop-i-preserved c = mapped_more c.loop-i.invariant c.loop-i-test.true _ c.and.ensures
-
+-- src/grid.rt:68:1
 pub returns : goal.returns
-unfolding both
-returns c = mapped_all c.loop-i.invariant c.loop-i-test.false
+returns c = ?

@@ -1,37 +1,24 @@
--- `grid::closure` meets its contract: one round for each event, row by row.
-use mathlib.Core.Path.{refl, ap, ◌∙◌}
-use Prim.Native.Nat.{ℕ}
-use native.Mathlib.Omega.{arith}
-use Rattle.relation.specs.Rel.{empty, union, given, plus, below}
-use Rattle.relation.specs.Bits.{edge}
-use Rattle.relation.proofs.GridLaws.{mapped_start, mapped_more, mapped_all, through_row, through_rows, through_none, none_in, plus_none, plus_step}
-use borrow.Author.Rules.{rules}
+use Rattle.std.proofs.Common.{rules, ◌≡◌, ◌<◌, ℕ, ◌+◌, ◌-◌, ◌*◌, ◌≤◌, length, ◌/◌, ◌%◌, Bool, true, false, nat_eq, nat_lt, List, [], ◌∷◌, ◌++◌, slice_index_or, slice_set, bit_and, bit_or, Fits, w8, w32, w64, Bor, MutBor}
+use Rattle.relation.specs.Rel.{none, pair, either, both, minus, inverse, identity, product, from, into, image, compose, plus, optional, star, diagonal, nodes}
+use Rattle.relation.specs.Bits.{bit, edge}
 use Rattle.relation.proofs.grid.closure.Goals as goal
 
+-- src/grid.rt:222:5
 pub loop-k-init : goal.loop-k-init
-loop-k-init c = (search rules, plus_none _, search rules)
+loop-k-init c = ?
 
+-- src/grid.rt:225:13
 pub loop-i-init : goal.loop-i-init
-unfolding edge union given empty
-loop-i-init c = (mapped_start c.loop-k.invariant.2 (λ m h. refl), refl)
+loop-i-init c = ?
 
+-- src/grid.rt:225:13
 pub loop-i-preserved : goal.loop-i-preserved
-unfolding edge
-loop-i-preserved c =
-    let inv = c.loop-i.invariant in (
-      mapped_more inv.0 c.loop-i-test.true _
-          (c.or.ensures ∙ ap (union _) c.given.ensures ∙ through_row _ _ _ c.has.ensures (inv.0.rows.rest _ (omega arith))),
-      inv.1,
-    )
+loop-i-preserved c = ?
 
+-- src/grid.rt:222:5
 pub loop-k-preserved : goal.loop-k-preserved
-unfolding edge
-loop-k-preserved c =
-    let inv = c.loop-k.invariant in
-    elim c.if-first-lt64.branch [
-      | goal.then-first-lt64+else-loop-i-test w ↦ rw w.h-is (search rules, mapped_all w.loop-i.invariant.0 w.loop-i-test.false ∙ through_rows _ _ _ w.loop-i.invariant.1 ∙ plus_step _ _ _ inv.1, w.loop-i.invariant.0.rows.long)
-      | goal.else-first-lt64 w ↦ rw w.h-is (search rules, through_none _ _ (none_in _ _ c.first.ensures w.if-first-lt64.false) ∙ plus_step _ _ _ inv.1, inv.2)
-    ]
+loop-k-preserved c = ?
 
+-- src/grid.rt:218:1
 pub returns : goal.returns
-returns c = c.loop-k.invariant.1 ∙ ap (λ (k : ℕ). plus (below k) (edge c.args.g)) (omega arith)
+returns c = ?

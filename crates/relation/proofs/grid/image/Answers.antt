@@ -1,18 +1,12 @@
--- `grid::image` meets its contract, member by member.
-use native.Mathlib.Omega.{arith}
-use Rattle.relation.specs.Bits.{edge}
-use Rattle.relation.proofs.GridLaws.{reached_first, reached_next, reached_all}
+use Rattle.std.proofs.Common.{rules, ◌≡◌, ◌<◌, ℕ, ◌+◌, ◌-◌, ◌*◌, ◌≤◌, length, ◌/◌, ◌%◌, Bool, true, false, nat_eq, nat_lt, List, [], ◌∷◌, ◌++◌, slice_index_or, slice_set, bit_and, bit_or, Fits, w8, w32, w64, Bor, MutBor}
+use Rattle.relation.specs.Rel.{none, pair, either, both, minus, inverse, identity, product, from, into, image, compose, plus, optional, star, diagonal, nodes}
+use Rattle.relation.specs.Bits.{bit, edge}
 use Rattle.relation.proofs.grid.image.Goals as goal
 
+-- src/grid.rt:86:5
 pub loop-i-init : goal.loop-i-init
-loop-i-init c = reached_first _ _ _ _ c.none-r.ensures c.first-i.ensures
+loop-i-init c = ?
 
-pub loop-i-smaller : goal.loop-i-smaller
-loop-i-smaller c = omega (arith, c.next-i.ensures.low, c.loop-i-test.true)
-
+-- src/grid.rt:86:5
 pub loop-i-preserved : goal.loop-i-preserved
-unfolding edge
-loop-i-preserved c = reached_next _ _ _ _ c.loop-i.invariant c.loop-i-test.true _ _ c.or-z.ensures c.next-i.ensures
-
-pub returns : goal.returns
-returns c = reached_all _ _ _ _ c.loop-i.invariant c.loop-i-test.false
+loop-i-preserved c = ?

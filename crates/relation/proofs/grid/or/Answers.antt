@@ -1,18 +1,8 @@
--- `grid::or` meets its contract, row by row.
-use Rattle.relation.specs.Rel.{empty, union, either}
-use Rattle.relation.specs.Bits.{edge}
-use Rattle.relation.proofs.GridLaws.{mapped_start, mapped_more, mapped_all, edge_out}
-use borrow.Author.Rules.{rules}
+use Rattle.std.proofs.Common.{rules, ◌≡◌, ◌<◌, ℕ, ◌+◌, ◌-◌, ◌*◌, ◌≤◌, length, ◌/◌, ◌%◌, Bool, true, false, nat_eq, nat_lt, List, [], ◌∷◌, ◌++◌, slice_index_or, slice_set, bit_and, bit_or, Fits, w8, w32, w64, Bor, MutBor}
+use Rattle.relation.specs.Rel.{none, pair, either, both, minus, inverse, identity, product, from, into, image, compose, plus, optional, star, diagonal, nodes}
+use Rattle.relation.specs.Bits.{bit, edge}
 use Rattle.relation.proofs.grid.or.Goals as goal
 
-pub loop-i-init : goal.loop-i-init
-unfolding union empty
-loop-i-init c = mapped_start (search rules) (edge_out _ (search rules))
-
-pub loop-i-preserved : goal.loop-i-preserved
-unfolding edge
-loop-i-preserved c = mapped_more c.loop-i.invariant c.loop-i-test.true _ c.or.ensures
-
+-- src/grid.rt:61:1
 pub returns : goal.returns
-unfolding either
-returns c = mapped_all c.loop-i.invariant c.loop-i-test.false
+returns c = ?

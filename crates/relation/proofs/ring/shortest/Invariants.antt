@@ -1,14 +1,9 @@
--- `ring::shortest` meets its contract: fewer steps are tried first.
-use mathlib.Core.Path.{◌≡◌}
-use mathlib.Core.Bool.{false}
-use Prim.Native.Nat.{ℕ, ◌-◌, ◌≤◌, ◌<◌}
-use Rattle.relation.specs.Rel.{inverse, compose, nodes}
+use Rattle.std.proofs.Common.{◌≡◌, true, ℕ, ◌<◌, ◌≤◌, length, ◌+◌, ◌-◌, ◌*◌}
+use Rattle.arrayvec.specs.ArrayVec.{array_vec_len}
 use Rattle.relation.specs.Bits.{edge}
-use Rattle.relation.specs.Ring.{power}
+use Rattle.relation.specs.Rel.{compose, nodes}
+use Rattle.relation.specs.Ring.{RingOrNone, power, ShortestOrNone, Levels, StepsBack, Way, Turned, SmallestAt}
 use Rattle.relation.proofs.ring.shortest.Given as goal
 
-abbrev pub invariant-loop-n : goal.invariant-loop-n
-invariant-loop-n l = (l.n ≤ 64) × (edge l.p ≡ power l.n (edge l.g)) × ((m : ℕ) → m < l.n → (t : ℕ) → compose nodes (power m (edge l.g)) (inverse (edge l.back)) t t ≡ false)
-
-abbrev pub decreases-loop-n : goal.decreases-loop-n
-decreases-loop-n l = 64 - l.n
+abbrev pub invariant-loop-steps : goal.invariant-loop-steps
+invariant-loop-steps l = ?

@@ -1,24 +1,22 @@
--- `ring::smallest_at` meets its contract.
-use native.Mathlib.Omega.{arith}
-use Rattle.relation.proofs.RingLaws.{smallest_one, smallest_new, smallest_old, smallest_done}
-use borrow.Author.Rules.{rules}
+use Rattle.std.proofs.Common.{rules, ◌≡◌, true, ℕ, ◌<◌, ◌≤◌, length, ◌+◌, ◌-◌, ◌*◌, ◌/◌, ◌%◌, Bool, false, nat_eq, nat_lt, List, [], ◌∷◌, ◌++◌, slice_index_or, slice_set, bit_and, bit_or, Fits, w8, w32, w64, Bor, MutBor}
+use Rattle.arrayvec.specs.ArrayVec.{array_vec_len}
+use Rattle.relation.specs.Bits.{edge}
+use Rattle.relation.specs.Rel.{compose, nodes}
+use Rattle.relation.specs.Ring.{RingOrNone, power, ShortestOrNone, Levels, StepsBack, Way, Turned, SmallestAt}
 use Rattle.relation.proofs.ring.smallest_at.Goals as goal
 
+-- src/ring.rt:83:5
 pub loop-k-init : goal.loop-k-init
-loop-k-init c = (search rules, search rules, smallest_one _)
+loop-k-init c = ?
 
-pub bounds-at-m : goal.bounds-at-m
-bounds-at-m c = omega (arith, c.loop-k.invariant.2.inside)
+-- src/ring.rt:84:21
+pub bounds-way-m : goal.bounds-way-m
+bounds-way-m c = ?
 
+-- src/ring.rt:83:5
 pub loop-k-preserved : goal.loop-k-preserved
-loop-k-preserved c =
-    let inv = c.loop-k.invariant in
-    elim c.if-at-k.branch [
-      | goal.then-at-k w ↦ rw w.m-is (omega arith, inv.1, smallest_new _ _ _ inv.2 w.if-at-k.true)
-      | goal.else-at-k w ↦ rw w.m-is (omega arith, inv.1, smallest_old _ _ _ inv.2 w.if-at-k.false)
-    ]
+loop-k-preserved c = ?
 
+-- src/ring.rt:78:1
 pub returns : goal.returns
-returns c =
-    let inv = c.loop-k.invariant in
-    smallest_done _ _ _ _ (omega arith) inv.2
+returns c = ?

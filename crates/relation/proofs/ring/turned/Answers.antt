@@ -1,21 +1,34 @@
--- `ring::turned` meets its contract, place by place.
-use native.Mathlib.Omega.{arith}
-use Rattle.relation.proofs.RingLaws.{turning_none, turning_more, turning_all, turned_inside}
-use borrow.Author.Rules.{rules}
+use Rattle.std.proofs.Common.{rules, ◌≡◌, true, ℕ, ◌<◌, ◌≤◌, length, ◌+◌, ◌-◌, ◌*◌, ◌/◌, ◌%◌, Bool, false, nat_eq, nat_lt, List, [], ◌∷◌, ◌++◌, slice_index_or, slice_set, bit_and, bit_or, Fits, w8, w32, w64, Bor, MutBor}
+use Rattle.arrayvec.specs.ArrayVec.{array_vec_len}
+use Rattle.relation.specs.Bits.{edge}
+use Rattle.relation.specs.Rel.{compose, nodes}
+use Rattle.relation.specs.Ring.{RingOrNone, power, ShortestOrNone, Levels, StepsBack, Way, Turned, SmallestAt}
 use Rattle.relation.proofs.ring.turned.Goals as goal
 
-pub loop-k-init : goal.loop-k-init
-loop-k-init c = (search rules, search rules, c.smallest_at-m.ensures, turning_none (search rules))
+-- src/ring.rt:98:5
+pub loop-event-init : goal.loop-event-init
+loop-event-init c = ?
 
-pub bounds-at-j : goal.bounds-at-j
-bounds-at-j c =
-    let inv = c.loop-k.invariant in
-    omega (arith, c.turned_to-j.ensures, turned_inside _ _ _ c.loop-k-test.true inv.2.inside)
+-- src/ring.rt:99:9
+pub push-requires : goal.push-requires
+push-requires c = ?
 
-pub loop-k-preserved : goal.loop-k-preserved
-loop-k-preserved c =
-    let inv = c.loop-k.invariant in
-    (search rules, inv.1, inv.2, turning_more inv.3 (omega arith) c.turned_to-j.ensures)
+-- src/ring.rt:98:5
+pub loop-event-preserved : goal.loop-event-preserved
+loop-event-preserved c = ?
 
+-- src/ring.rt:101:5
+pub loop-event-2-init : goal.loop-event-2-init
+loop-event-2-init c = ?
+
+-- src/ring.rt:102:9
+pub push-requires-in-loop-event-2 : goal.push-requires-in-loop-event-2
+push-requires-in-loop-event-2 c = ?
+
+-- src/ring.rt:101:5
+pub loop-event-2-preserved : goal.loop-event-2-preserved
+loop-event-2-preserved c = ?
+
+-- src/ring.rt:92:1
 pub returns : goal.returns
-returns c = turning_all c.loop-k-test.false c.loop-k.invariant.3 c.loop-k.invariant.2
+returns c = ?

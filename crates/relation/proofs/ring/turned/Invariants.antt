@@ -1,11 +1,12 @@
--- `ring::turned` meets its contract, place by place.
-use Prim.Native.Nat.{◌-◌, ◌≤◌}
-use Rattle.relation.specs.Ring.{SmallestAt}
-use Rattle.relation.proofs.RingLaws.{Turning}
+use Rattle.std.proofs.Common.{◌≡◌, true, ℕ, ◌<◌, ◌≤◌, length, ◌+◌, ◌-◌, ◌*◌}
+use Rattle.arrayvec.specs.ArrayVec.{array_vec_len}
+use Rattle.relation.specs.Bits.{edge}
+use Rattle.relation.specs.Rel.{compose, nodes}
+use Rattle.relation.specs.Ring.{RingOrNone, power, ShortestOrNone, Levels, StepsBack, Way, Turned, SmallestAt}
 use Rattle.relation.proofs.ring.turned.Given as goal
 
-abbrev pub invariant-loop-k : goal.invariant-loop-k
-invariant-loop-k l = (l.k ≤ l.len) × (l.len ≤ 64) × SmallestAt l.at l.len l.m × Turning l.at l.len l.m l.out l.k
+abbrev pub invariant-loop-event : goal.invariant-loop-event
+invariant-loop-event l = ?
 
-abbrev pub decreases-loop-k : goal.decreases-loop-k
-decreases-loop-k l = l.len - l.k
+abbrev pub invariant-loop-event-2 : goal.invariant-loop-event-2
+invariant-loop-event-2 l = ?

@@ -1,12 +1,13 @@
--- `row::first` meets its contract: the zeros below the lowest set bit.
-use mathlib.Core.Path.{ap, sym, ◌∙◌}
-use native.Mathlib.Omega.{arith}
-use Rattle.relation.specs.Rel.{least}
-use Rattle.relation.proofs.WordLaws.{trailing_fits, trailing_least}
+use Rattle.std.proofs.Common.{rules, ◌≡◌, not, ◌<◌, ◌≤◌, ℕ, ◌+◌, ◌-◌, ◌*◌, length, ◌/◌, ◌%◌, Bool, true, false, nat_eq, nat_lt, List, [], ◌∷◌, ◌++◌, slice_index_or, slice_set, bit_and, bit_or, Fits, w8, w32, w64, Bor, MutBor}
+use Rattle.relation.specs.Rel.{empty, single, given, union, intersection, difference, smallest, some, nodes, count}
+use Rattle.relation.specs.Bits.{on, bit, byte_or}
+use Rattle.relation.specs.Ring.{under}
 use Rattle.relation.proofs.row.first.Goals as goal
 
-pub overflow_cast-result : goal.overflow_cast-result
-overflow_cast-result c = record { fits = omega (arith, trailing_fits c.word.result) }
+-- src/row.rt:136:9
+pub returns-then-w-eq0 : goal.returns-then-w-eq0
+returns-then-w-eq0 c = ?
 
+-- src/row.rt:131:1
 pub returns : goal.returns
-returns c = trailing_least 64 _ ∙ ap (least 64) (sym c.word.ensures)
+returns c = ?

@@ -1,0 +1,9 @@
+use Rattle.std.proofs.Common.{rules, ◌≡◌, not, ◌<◌, ◌≤◌, ℕ, ◌+◌, ◌-◌, ◌*◌, length, ◌/◌, ◌%◌, Bool, true, false, nat_eq, nat_lt, List, [], ◌∷◌, ◌++◌, slice_index_or, slice_set, bit_and, bit_or, Fits, w8, w32, w64, Bor, MutBor}
+use Rattle.relation.specs.Rel.{empty, single, given, union, intersection, difference, smallest, some, nodes, count}
+use Rattle.relation.specs.Bits.{on, bit, byte_or}
+use Rattle.relation.specs.Ring.{under}
+use Rattle.relation.proofs.row.MemberIterIterator.next.Goals as goal
+
+-- src/row.rt:171:21
+pub without-self-requires : goal.without-self-requires
+without-self-requires c = ?
