@@ -1,47 +1,43 @@
--- `graph::program_order` meets its contract: from the end of the line on, the row of each event.
-use mathlib.Core.Path.{◌≡◌, refl}
-use native.Mathlib.Omega.{arith}
-use lib.ListN.{length}
-use Rattle.reading.proofs.ThreadLaws.{backward_start, placed, backward_keep, backward_with, backward_all}
-use borrow.Author.Rules.{rules}
+use Rattle.std.proofs.Common.{rules, ◌≡◌, true, ℕ, ◌<◌, eqb, ◌+◌, ◌-◌, ◌*◌, ◌≤◌, length, ◌/◌, ◌%◌, Bool, false, nat_lt, List, [], ◌∷◌, ◌++◌, slice_index_or, slice_set, bit_and, bit_or, Fits, w8, w32, w64, Bor, MutBor}
+use Rattle.relation.specs.Bits.{bit, edge}
+use Rattle.relation.specs.Rel.{nodes, inverse}
+use Rattle.models.specs.Recording.{same_location, co_step}
+use Rattle.models.specs.Graph.{base}
+use Rattle.layout.specs.Layout.{Sized}
+use Rattle.layout.specs.Chains.{threads_sound}
+use Rattle.layout.specs.Decode.{decode}
+use Rattle.reading.specs.Readable.{Readable}
+use Rattle.reading.specs.Sets.{access_at, Located, AccessRows, SourcesInto, LinkRows}
 use Rattle.reading.proofs.graph.program_order.Goals as goal
 
-pub loop-k-init : goal.loop-k-init
-loop-k-init c =
-    let pre = c.requires in
-    let long : length c.line-line.result.at ≡ 64 = search rules in
-    backward_start _ pre.0 pre.1 c.line-line.ensures long (search rules) c.initial.ensures c.recorded.ensures c.product-h.ensures
+-- src/graph.rt:28:5
+pub loop-event-init : goal.loop-event-init
+loop-event-init c = ?
 
-pub bounds-at-k : goal.bounds-at-k
-bounds-at-k c = let inv = c.loop-k.invariant in omega (arith, inv.high, inv.line.bounded, c.loop-k-test.true)
-
+-- src/graph.rt:30:13
 pub event_byte-b-requires : goal.event_byte-b-requires
-event_byte-b-requires c =
-    let inv = c.loop-k.invariant in
-    let place = placed inv c.loop-k-test.true refl refl in
-    (inv.sized, place.low, place.high, omega arith)
+event_byte-b-requires c = ?
 
-pub loop-k-preserved-then-b-ne0 : goal.loop-k-preserved-then-b-ne0
-loop-k-preserved-then-b-ne0 c =
-    backward_with c.loop-k.invariant c.loop-k-test.true (placed c.loop-k.invariant c.loop-k-test.true refl c.event_byte-b.ensures.0) c.if-b-ne0.true _ c.with.ensures
-
-pub loop-k-preserved : goal.loop-k-preserved
-loop-k-preserved c = backward_keep c.loop-k.invariant c.loop-k-test.true (placed c.loop-k.invariant c.loop-k-test.true refl c.event_byte-b.ensures.0) c.if-b-ne0.false
-
-pub returns : goal.returns
-returns c = backward_all c.loop-k-test.false c.loop-k.invariant
-
-pub offset_bounds-h-b : goal.offset_bounds-h-b
-offset_bounds-h-b c = let event = (placed c.loop-k.invariant c.loop-k-test.true refl c.event_byte-b.ensures.0) in omega arith
-
+-- src/graph.rt:32:25
 pub bounds-h-b : goal.bounds-h-b
-bounds-h-b c = let event = (placed c.loop-k.invariant c.loop-k-test.true refl c.event_byte-b.ensures.0) in omega arith
+bounds-h-b c = ?
 
+-- src/graph.rt:33:20
 pub with-requires : goal.with-requires
-with-requires c = let event = (placed c.loop-k.invariant c.loop-k-test.true refl c.event_byte-b.ensures.0) in omega arith
+with-requires c = ?
 
-pub offset_bounds-h-e : goal.offset_bounds-h-e
-offset_bounds-h-e c = let event = (placed c.loop-k.invariant c.loop-k-test.true refl c.event_byte-b.ensures.0) in omega arith
-
+-- src/graph.rt:33:13
 pub bounds-h-e : goal.bounds-h-e
-bounds-h-e c = let event = (placed c.loop-k.invariant c.loop-k-test.true refl c.event_byte-b.ensures.0) in omega arith
+bounds-h-e c = ?
+
+-- src/graph.rt:28:5
+pub loop-event-preserved-then-b-ne0 : goal.loop-event-preserved-then-b-ne0
+loop-event-preserved-then-b-ne0 c = ?
+
+-- src/graph.rt:28:5
+pub loop-event-preserved : goal.loop-event-preserved
+loop-event-preserved c = ?
+
+-- src/graph.rt:22:1
+pub returns : goal.returns
+returns c = ?

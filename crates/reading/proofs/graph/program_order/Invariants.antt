@@ -1,9 +1,14 @@
--- `graph::program_order` meets its contract: from the end of the line on, the row of each event.
-use Rattle.reading.proofs.ThreadLaws.{Backward}
+use Rattle.std.proofs.Common.{◌≡◌, true, ℕ, ◌<◌, eqb, ◌+◌, ◌-◌, ◌*◌, ◌≤◌, length}
+use Rattle.relation.specs.Bits.{bit, edge}
+use Rattle.relation.specs.Rel.{nodes, inverse}
+use Rattle.models.specs.Recording.{same_location, co_step}
+use Rattle.models.specs.Graph.{base}
+use Rattle.layout.specs.Layout.{Sized}
+use Rattle.layout.specs.Chains.{threads_sound}
+use Rattle.layout.specs.Decode.{decode}
+use Rattle.reading.specs.Readable.{Readable}
+use Rattle.reading.specs.Sets.{access_at, Located, AccessRows, SourcesInto, LinkRows}
 use Rattle.reading.proofs.graph.program_order.Given as goal
 
-abbrev pub invariant-loop-k : goal.invariant-loop-k
-invariant-loop-k l = Backward l.file l.initial.k l.at l.k l.h
-
-abbrev pub decreases-loop-k : goal.decreases-loop-k
-decreases-loop-k l = l.k
+abbrev pub invariant-loop-event : goal.invariant-loop-event
+invariant-loop-event l = ?

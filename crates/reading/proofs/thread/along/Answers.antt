@@ -1,39 +1,33 @@
--- `thread::along` meets its contract: what is in the line and what is left of the chain are all.
-use native.Mathlib.Omega.{arith}
-use Rattle.reading.proofs.ThreadLaws.{partway_start, partway_done, partway_in, partway_more}
-use borrow.Author.Rules.{rules}
+use Rattle.std.proofs.Common.{rules, ◌≡◌, true, ◌+◌, ◌<◌, length, ℕ, ◌-◌, ◌*◌, ◌≤◌, ◌/◌, ◌%◌, Bool, false, nat_eq, nat_lt, List, [], ◌∷◌, ◌++◌, slice_index_or, slice_set, bit_and, bit_or, Fits, w8, w32, w64, Bor, MutBor}
+use Rattle.layout.specs.Layout.{threads, Sized}
+use Rattle.layout.specs.Chains.{thread, threads_sound}
+use Rattle.reading.specs.Sets.{Line}
 use Rattle.reading.proofs.thread.along.Goals as goal
 
-pub start-cursor-requires : goal.start-cursor-requires
-start-cursor-requires c = omega (arith, c.requires.0.long, c.requires.2)
-
+-- src/thread.rt:28:5
 pub loop-cursor-init : goal.loop-cursor-init
-loop-cursor-init c =
-    let pre = c.requires in (pre.0, partway_start _ pre.0 pre.1 _ _ _ _ pre.2 pre.3 (search rules) c.start-cursor.ensures.0)
+loop-cursor-init c = ?
 
-pub overflow_cast-at : goal.overflow_cast-at
-overflow_cast-at c =
-    let inv = c.loop-cursor.invariant in omega (arith, inv.0.most_events, partway_in _ _ _ _ _ inv.1 c.loop-cursor-test.true)
+-- src/thread.rt:29:21
+pub overflow_cast-cursor : goal.overflow_cast-cursor
+overflow_cast-cursor c = ?
 
-pub bounds-at-len : goal.bounds-at-len
-bounds-at-len c = omega (arith, partway_in _ _ _ _ _ c.loop-cursor.invariant.1 c.loop-cursor-test.true)
+-- src/thread.rt:29:9
+pub push-requires : goal.push-requires
+push-requires c = ?
 
-pub overflow_add-len : goal.overflow_add-len
-overflow_add-len c = omega (arith, partway_in _ _ _ _ _ c.loop-cursor.invariant.1 c.loop-cursor-test.true)
-
+-- src/thread.rt:30:13
 pub moved-next-requires : goal.moved-next-requires
-moved-next-requires c =
-    let inv = c.loop-cursor.invariant in
-    let (low, high, room) = partway_in _ _ _ _ _ inv.1 c.loop-cursor-test.true in
-    (low, omega (arith, high, inv.0.long))
+moved-next-requires c = ?
 
+-- src/thread.rt:28:5
 pub loop-cursor-smaller : goal.loop-cursor-smaller
-loop-cursor-smaller c = omega (arith, partway_in _ _ _ _ _ c.loop-cursor.invariant.1 c.loop-cursor-test.true)
+loop-cursor-smaller c = ?
 
+-- src/thread.rt:28:5
 pub loop-cursor-preserved : goal.loop-cursor-preserved
-loop-cursor-preserved c =
-    let inv = c.loop-cursor.invariant in
-    (inv.0, partway_more _ _ _ _ _ inv.1 c.loop-cursor-test.true _ c.moved-next.ensures.0)
+loop-cursor-preserved c = ?
 
+-- src/thread.rt:22:1
 pub returns : goal.returns
-returns c = partway_done _ _ _ _ _ c.loop-cursor.invariant.1 c.loop-cursor-test.false
+returns c = ?

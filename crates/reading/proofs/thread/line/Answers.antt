@@ -1,18 +1,21 @@
--- `thread::line` meets its contract, thread by thread.
-use Rattle.reading.proofs.ThreadLaws.{line_none, line_all}
-use borrow.Author.Rules.{rules}
+use Rattle.std.proofs.Common.{rules, ◌≡◌, true, ◌+◌, ◌<◌, length, ℕ, ◌-◌, ◌*◌, ◌≤◌, ◌/◌, ◌%◌, Bool, false, nat_eq, nat_lt, List, [], ◌∷◌, ◌++◌, slice_index_or, slice_set, bit_and, bit_or, Fits, w8, w32, w64, Bor, MutBor}
+use Rattle.layout.specs.Layout.{threads, Sized}
+use Rattle.layout.specs.Chains.{thread, threads_sound}
+use Rattle.reading.specs.Sets.{Line}
 use Rattle.reading.proofs.thread.line.Goals as goal
 
+-- src/thread.rt:42:5
 pub loop-t-init : goal.loop-t-init
-loop-t-init c = (search rules, c.requires.0, c.requires.1, line_none _ _)
+loop-t-init c = ?
 
-pub along-more-requires : goal.along-more-requires
-along-more-requires c = let inv = c.loop-t.invariant in (inv.1, inv.2, c.loop-t-test.true, inv.3)
+-- src/thread.rt:43:9
+pub along-events-requires : goal.along-events-requires
+along-events-requires c = ?
 
+-- src/thread.rt:42:5
 pub loop-t-preserved : goal.loop-t-preserved
-loop-t-preserved c = let inv = c.loop-t.invariant in (search rules, inv.1, inv.2, c.along-more.ensures)
+loop-t-preserved c = ?
 
+-- src/thread.rt:37:1
 pub returns : goal.returns
-returns c =
-    let inv = c.loop-t.invariant in
-    line_all _ _ _ _ inv.3 inv.0 c.loop-t-test.false
+returns c = ?
