@@ -1,14 +1,7 @@
--- `put` meets its contract, byte by byte.
-use native.Mathlib.Omega.{arith}
-use Rattle.output.proofs.OutputLaws.{putting_none, putting_more, putting_all}
-use borrow.Author.Rules.{rules}
+use Rattle.std.proofs.Common.{rules, ◌≡◌, ◌+◌, ◌≤◌, length, ℕ, ◌-◌, ◌*◌, ◌<◌, ◌/◌, ◌%◌, Bool, true, false, nat_eq, nat_lt, List, [], ◌∷◌, ◌++◌, slice_index_or, slice_set, bit_and, bit_or, Fits, w8, w32, w64, Bor, MutBor}
+use Rattle.output.specs.Output.{placed, Fills}
 use Rattle.output.proofs.put.Goals as goal
 
-pub loop-k-init : goal.loop-k-init
-loop-k-init c = (search rules, putting_none _ _ _ c.requires)
-
-pub loop-k-preserved : goal.loop-k-preserved
-loop-k-preserved c = (search rules, putting_more _ _ _ _ _ c.loop-k.invariant.1 c.loop-k-test.true)
-
+-- src/lib.rt:12:1
 pub returns : goal.returns
-returns c = putting_all _ _ _ _ _ c.loop-k.invariant.1 (omega arith)
+returns c = ?

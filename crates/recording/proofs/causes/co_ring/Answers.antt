@@ -1,13 +1,17 @@
--- `causes::co_ring` meets its contract.
-use mathlib.Core.Path.{ap, ◌∙◌}
-use Prim.Native.Nat.{ℕ}
-use lib.Dec.{ltb}
-use Rattle.relation.specs.Rel.{least, diagonal}
-use Rattle.relation.proofs.Meaning.{some_least}
-use Rattle.recording.proofs.CoherenceLaws.{co_ring_is}
+use Rattle.std.proofs.Common.{rules, ◌≡◌, true, not, ◌≤◌, ◌<◌, length, ℕ, ◌+◌, ◌-◌, ◌*◌, ◌/◌, ◌%◌, Bool, false, nat_eq, nat_lt, List, [], ◌∷◌, ◌++◌, slice_index_or, slice_set, bit_and, bit_or, Fits, w8, w32, w64, Bor, MutBor}
+use Rattle.relation.specs.Bits.{edge}
+use Rattle.relation.specs.Rel.{nodes}
+use Rattle.models.specs.Graph.{base}
+use Rattle.models.specs.Rules.{first}
+use Rattle.layout.specs.Layout.{events, threads, Sized}
+use Rattle.layout.specs.Chains.{each}
+use Rattle.layout.specs.Decode.{decode}
+use Rattle.reading.specs.Readable.{Readable, Chained}
+use Rattle.recording.specs.Causes.{too_long, links_sound_at, paired_at, header_over, header_causes, record_causes, link_causes, bad_threads, long_thread, bad_chains, co_ring}
+use Rattle.refusal.specs.Refusal.{number_of}
+use Rattle.recording.specs.Load.{header_of, Loads, cause_for}
 use Rattle.recording.proofs.causes.co_ring.Goals as goal
 
+-- src/causes.rt:67:1
 pub returns : goal.returns
-returns c =
-    ap (λ (x : ℕ). ltb x 64) (c.first.ensures ∙ ap (least 64) (c.diagonal.ensures ∙ ap diagonal c.closure-reached.ensures)) ∙ some_least _
-    ∙ co_ring_is _ c.requires.sized _ c.link_rows.ensures
+returns c = ?

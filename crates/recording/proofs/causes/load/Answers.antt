@@ -1,30 +1,29 @@
--- `causes::load` meets its contract: the causes of one part after the other, and the header where none applies.
--- The file, and that the causes of the parts tried so far do not apply.
-use mathlib.Core.Path.{sym, ◌∙◌}
-use Rattle.recording.proofs.CauseLaws.{refused_header, refused_records, refused_links, load_refused, load_loaded, sized_8}
+use Rattle.std.proofs.Common.{rules, ◌≡◌, true, not, ◌≤◌, ◌<◌, length, ℕ, ◌+◌, ◌-◌, ◌*◌, ◌/◌, ◌%◌, Bool, false, nat_eq, nat_lt, List, [], ◌∷◌, ◌++◌, slice_index_or, slice_set, bit_and, bit_or, Fits, w8, w32, w64, Bor, MutBor}
+use Rattle.relation.specs.Bits.{edge}
+use Rattle.relation.specs.Rel.{nodes}
+use Rattle.models.specs.Graph.{base}
+use Rattle.models.specs.Rules.{first}
+use Rattle.layout.specs.Layout.{events, threads, Sized}
+use Rattle.layout.specs.Chains.{each}
+use Rattle.layout.specs.Decode.{decode}
+use Rattle.reading.specs.Readable.{Readable, Chained}
+use Rattle.recording.specs.Causes.{too_long, links_sound_at, paired_at, header_over, header_causes, record_causes, link_causes, bad_threads, long_thread, bad_chains, co_ring}
+use Rattle.refusal.specs.Refusal.{number_of}
+use Rattle.recording.specs.Load.{header_of, Loads, cause_for}
 use Rattle.recording.proofs.causes.load.Goals as goal
 
-pub returns-then-k-ne0 : goal.returns-then-k-ne0
-returns-then-k-ne0 c =
-    load_refused _ _ (refused_header _ _ c.header_refusal-k.ensures.cause c.if-k-ne0.true) c.if-k-ne0.true
+-- src/causes.rt:210:5
+pub returns-in_err-header_refusal : goal.returns-in_err-header_refusal
+returns-in_err-header_refusal c = ?
 
-pub record_refusal-j-requires : goal.record_refusal-j-requires
-record_refusal-j-requires c = c.header_refusal-k.ensures.sized c.if-k-ne0.false
+-- src/causes.rt:211:5
+pub returns-in_err-record_refusal : goal.returns-in_err-record_refusal
+returns-in_err-record_refusal c = ?
 
-pub returns-then-j-ne0 : goal.returns-then-j-ne0
-returns-then-j-ne0 c =
-    load_refused _ _ (refused_records _ (sym c.header_refusal-k.ensures.cause ∙ c.if-k-ne0.false) _ c.record_refusal-j.ensures c.if-j-ne0.true) c.if-j-ne0.true
+-- src/causes.rt:212:5
+pub returns-in_err-link_refusal : goal.returns-in_err-link_refusal
+returns-in_err-link_refusal c = ?
 
-pub link_refusal-i-requires : goal.link_refusal-i-requires
-link_refusal-i-requires c = (c.header_refusal-k.ensures.sized c.if-k-ne0.false, (sym c.record_refusal-j.ensures ∙ c.if-j-ne0.false))
-
-pub returns-then-i-ne0 : goal.returns-then-i-ne0
-returns-then-i-ne0 c =
-    load_refused _ _ (c.link_refusal-i.ensures ∙ refused_links _ (sym c.header_refusal-k.ensures.cause ∙ c.if-k-ne0.false) (sym c.record_refusal-j.ensures ∙ c.if-j-ne0.false)) c.if-i-ne0.true
-
-pub header-requires : goal.header-requires
-header-requires c = sized_8 _ (c.header_refusal-k.ensures.sized c.if-k-ne0.false)
-
+-- src/causes.rt:207:1
 pub returns : goal.returns
-returns c =
-    load_loaded _ _ _ (c.link_refusal-i.ensures ∙ refused_links _ (sym c.header_refusal-k.ensures.cause ∙ c.if-k-ne0.false) (sym c.record_refusal-j.ensures ∙ c.if-j-ne0.false)) c.if-i-ne0.false c.header.ensures
+returns c = ?

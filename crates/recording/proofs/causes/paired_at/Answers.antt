@@ -1,14 +1,21 @@
--- `causes::paired_at` meets its contract.
-use mathlib.Core.Path.{sym, ◌∙◌}
-use Rattle.recording.proofs.CauseLaws.{paired_no, paired_yes}
+use Rattle.std.proofs.Common.{rules, ◌≡◌, true, not, ◌≤◌, ◌<◌, length, ℕ, ◌+◌, ◌-◌, ◌*◌, ◌/◌, ◌%◌, Bool, false, nat_eq, nat_lt, List, [], ◌∷◌, ◌++◌, slice_index_or, slice_set, bit_and, bit_or, Fits, w8, w32, w64, Bor, MutBor}
+use Rattle.relation.specs.Bits.{edge}
+use Rattle.relation.specs.Rel.{nodes}
+use Rattle.models.specs.Graph.{base}
+use Rattle.models.specs.Rules.{first}
+use Rattle.layout.specs.Layout.{events, threads, Sized}
+use Rattle.layout.specs.Chains.{each}
+use Rattle.layout.specs.Decode.{decode}
+use Rattle.reading.specs.Readable.{Readable, Chained}
+use Rattle.recording.specs.Causes.{too_long, links_sound_at, paired_at, header_over, header_causes, record_causes, link_causes, bad_threads, long_thread, bad_chains, co_ring}
+use Rattle.refusal.specs.Refusal.{number_of}
+use Rattle.recording.specs.Load.{header_of, Loads, cause_for}
 use Rattle.recording.proofs.causes.paired_at.Goals as goal
 
-pub is_flagged-requires : goal.is_flagged-requires
-is_flagged-requires c = c.requires.sized
-
+-- src/causes.rt:45:9
 pub returns-then-not-is_flagged : goal.returns-then-not-is_flagged
-returns-then-not-is_flagged c = paired_no _ _ (sym c.is_flagged.ensures ∙ c.if-not-is_flagged.true)
+returns-then-not-is_flagged c = ?
 
+-- src/causes.rt:40:1
 pub returns : goal.returns
-returns c =
-    paired_yes _ _ _ _ (sym c.is_flagged.ensures ∙ c.if-not-is_flagged.false) c.sources_of.ensures c.first.ensures
+returns c = ?

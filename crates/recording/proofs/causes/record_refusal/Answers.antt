@@ -1,35 +1,33 @@
--- `causes::record_refusal` meets its contract: the first cause that applies.
--- The file, and that the causes tried so far do not apply.
-use mathlib.Core.Bool.{not}
-use mathlib.Core.Path.{ap}
-use mathlib.Core.Path.{refl, sym, ◌∙◌}
+use Rattle.std.proofs.Common.{rules, ◌≡◌, true, not, ◌≤◌, ◌<◌, length, ℕ, ◌+◌, ◌-◌, ◌*◌, ◌/◌, ◌%◌, Bool, false, nat_eq, nat_lt, List, [], ◌∷◌, ◌++◌, slice_index_or, slice_set, bit_and, bit_or, Fits, w8, w32, w64, Bor, MutBor}
+use Rattle.relation.specs.Bits.{edge}
+use Rattle.relation.specs.Rel.{nodes}
+use Rattle.models.specs.Graph.{base}
 use Rattle.models.specs.Rules.{first}
-use Rattle.models.proofs.FirstLaws.{at, positive, first_at, none_more}
-use Rattle.recording.specs.Causes.{bad_event, record_causes}
-use Rattle.recording.proofs.CauseLaws.{opposite}
+use Rattle.layout.specs.Layout.{events, threads, Sized}
+use Rattle.layout.specs.Chains.{each}
+use Rattle.layout.specs.Decode.{decode}
+use Rattle.reading.specs.Readable.{Readable, Chained}
+use Rattle.recording.specs.Causes.{too_long, links_sound_at, paired_at, header_over, header_causes, record_causes, link_causes, bad_threads, long_thread, bad_chains, co_ring}
+use Rattle.refusal.specs.Refusal.{number_of}
+use Rattle.recording.specs.Load.{header_of, Loads, cause_for}
 use Rattle.recording.proofs.causes.record_refusal.Goals as goal
 
+-- src/causes.rt:125:9
 pub returns-then-not-events_legal : goal.returns-then-not-events_legal
-unfolding record_causes bad_event at positive first
-returns-then-not-events_legal c =
-    sym (first_at 0 (record_causes c.args.file.now) refl refl (opposite _ _ _ c.events_legal.ensures (ap not c.if-not-events_legal.true)))
+returns-then-not-events_legal c = ?
 
+-- src/causes.rt:128:9
 pub returns-then-not-threads_sound : goal.returns-then-not-threads_sound
-unfolding record_causes bad_event at positive first
-returns-then-not-threads_sound c =
-    sym (first_at 1 (record_causes _) refl (none_more 0 (record_causes (c.args.file.now)) refl refl (opposite _ _ _ c.events_legal.ensures (ap not c.if-not-events_legal.false))) (sym c.threads_sound.ensures ∙ (ap not c.if-not-threads_sound.true)))
+returns-then-not-threads_sound c = ?
 
+-- src/causes.rt:131:9
 pub returns-then-long_thread : goal.returns-then-long_thread
-unfolding record_causes bad_event at positive first
-returns-then-long_thread c =
-    sym (first_at 2 (record_causes _) refl (none_more 1 (record_causes (c.args.file.now)) refl (none_more 0 (record_causes (c.args.file.now)) refl refl (opposite _ _ _ c.events_legal.ensures (ap not c.if-not-events_legal.false))) (sym c.threads_sound.ensures ∙ (ap not c.if-not-threads_sound.false))) (sym c.long_thread.ensures ∙ c.if-long_thread.true))
+returns-then-long_thread c = ?
 
+-- src/causes.rt:134:9
 pub returns-then-not-chains_sound : goal.returns-then-not-chains_sound
-unfolding record_causes bad_event at positive first
-returns-then-not-chains_sound c =
-    sym (first_at 3 (record_causes _) refl (none_more 2 (record_causes (c.args.file.now)) refl (none_more 1 (record_causes (c.args.file.now)) refl (none_more 0 (record_causes (c.args.file.now)) refl refl (opposite _ _ _ c.events_legal.ensures (ap not c.if-not-events_legal.false))) (sym c.threads_sound.ensures ∙ (ap not c.if-not-threads_sound.false))) (sym c.long_thread.ensures ∙ c.if-long_thread.false)) (sym c.chains_sound.ensures ∙ (ap not c.if-not-chains_sound.true)))
+returns-then-not-chains_sound c = ?
 
+-- src/causes.rt:120:1
 pub returns : goal.returns
-unfolding record_causes bad_event at positive first
-returns c =
-    sym (none_more 3 (record_causes _) refl (none_more 2 (record_causes (c.args.file.now)) refl (none_more 1 (record_causes (c.args.file.now)) refl (none_more 0 (record_causes (c.args.file.now)) refl refl (opposite _ _ _ c.events_legal.ensures (ap not c.if-not-events_legal.false))) (sym c.threads_sound.ensures ∙ (ap not c.if-not-threads_sound.false))) (sym c.long_thread.ensures ∙ c.if-long_thread.false)) (sym c.chains_sound.ensures ∙ (ap not c.if-not-chains_sound.false)))
+returns c = ?

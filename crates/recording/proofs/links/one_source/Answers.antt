@@ -1,15 +1,14 @@
--- `links::one_source` meets its contract: no member is left without the least.
-use mathlib.Core.Path.{ap, ◌∙◌}
-use Prim.Native.Nat.{ℕ}
-use native.Mathlib.Omega.{arith}
-use lib.Dec.{eqb}
-use Rattle.recording.proofs.CauseLaws.{alone, alone_with}
+use Rattle.std.proofs.Common.{rules, ◌≡◌, ℕ, ◌≤◌, ◌+◌, ◌-◌, ◌*◌, ◌<◌, length, ◌/◌, ◌%◌, Bool, true, false, nat_eq, nat_lt, List, [], ◌∷◌, ◌++◌, slice_index_or, slice_set, bit_and, bit_or, Fits, w8, w32, w64, Bor, MutBor}
+use Rattle.relation.specs.Bits.{bit, edge}
+use Rattle.relation.specs.Rel.{nodes, inverse}
+use Rattle.models.specs.Recording.{Recording}
+use Rattle.models.specs.Graph.{base}
+use Rattle.layout.specs.Layout.{events}
+use Rattle.layout.specs.Decode.{decode}
+use Rattle.reading.specs.Readable.{Chained}
+use Rattle.recording.specs.Causes.{one_source, links_sound_at}
 use Rattle.recording.proofs.links.one_source.Goals as goal
 
-pub returns-then-a-ge64 : goal.returns-then-a-ge64
-returns-then-a-ge64 c r b e = alone r b _ e (omega (arith, c.first-a.ensures, c.if-a-ge64.true))
-
+-- src/links.rt:21:1
 pub returns : goal.returns
-returns c r b e =
-    ap (λ (y : ℕ). eqb y 64) c.first.ensures
-    ∙ alone_with r b _ _ _ e c.first-a.ensures c.if-a-ge64.false c.without.ensures
+returns c = ?
