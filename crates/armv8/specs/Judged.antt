@@ -2,7 +2,7 @@
 use Rattle.models.specs.Graph.{Base}
 use Rattle.models.specs.Armv8.{ob}
 use Rattle.verdict.specs.PerLocation.{PerLocation}
-use Rattle.verdict.specs.declared.Verdict.{Verdict}
+use Rattle.verdict.specs.Verdict.{Verdict}
 
 -- Rule 3 is SC-per-location, and rule 5 is of ob.
 abbrev pub Judged : Base → Verdict → Type 0

@@ -9,23 +9,17 @@ ghost use Rattle.verdict.specs.Base.{base_of};
 ghost use Rattle.armv8.specs.Judged.{Judged};
 
 use relation::grid;
-use verdict::base::{Relations, Sets};
-use verdict::{Verdict, base, per_location, rules, shown};
+use verdict::base::Base;
+use verdict::{Verdict, per_location, shown};
 
 // The verdict, and what is shown of it.
-pub fn judge(sets: Sets, relations: Relations) -> Verdict
-    ensures { Judged (base_of sets relations) result }
+pub fn judge(b: &Base) -> Verdict
+    ensures { Judged (base_of b.now) result }
 {
-    let po = relations[base::PO];
-    let co = relations[base::CO];
-    let fr = rules::fr(relations[base::RF], co);
+    let fr = b.fr();
     // Rules 1 to 4.
-    let broken = per_location::tried(sets, relations, fr);
-    if broken.len != 0 {
-        return broken;
-    }
+    per_location::tried(b, fr)?;
     // Rule 5: ob = obs ∪ dob ∪ aob ∪ bob
-    let clauses = ob::clauses(sets, relations, grid::minus(fr, po), grid::minus(co, po));
-    let ob = clause::union(clauses);
-    shown::acyclicity(ob, sets[base::EVENTS])
+    let ob = clause::union(&ob::clauses(b, grid::minus(fr, b.po)));
+    shown::acyclicity(ob, b.events)
 }

@@ -5,17 +5,13 @@ ghost use Rattle.verdict.specs.Base.{base_of};
 ghost use Rattle.clause.specs.Steps.{Held};
 
 use crate::ob;
-use clause::Clauses;
 use relation::grid;
-use verdict::base::{Relations, Sets};
-use verdict::{base, rules};
+use relation::grid::Grid;
+use verdict::base::Base;
 
 // Rule 5: those of ob.
-pub fn order(sets: Sets, relations: Relations) -> Clauses
-    ensures { Held 14 armv8_rings.rule5 (base_of sets relations) result }
+pub fn order(b: &Base) -> [Grid; 14]
+    ensures { Held armv8_rings.rule5 (base_of b.now) result }
 {
-    let po = relations[base::PO];
-    let co = relations[base::CO];
-    let fr = rules::fr(relations[base::RF], co);
-    ob::clauses(sets, relations, grid::minus(fr, po), grid::minus(co, po))
+    ob::clauses(b, grid::minus(b.fr(), b.po))
 }

@@ -6,13 +6,11 @@ use Rattle.relation.specs.Ring.{after}
 use Rattle.models.specs.Recording.{Recording}
 use Rattle.models.specs.Graph.{Base, graph}
 use Rattle.models.specs.Clause.{Clause, First, tested, number_from}
-use Rattle.verdict.specs.declared.Verdict.{Verdict}
-use Rattle.verdict.specs.Answer.{rule_of}
-use Rattle.verdict.specs.Shown.{events}
+use Rattle.verdict.specs.Verdict.{Verdict, rule_of, events}
 
 -- The ring that a verdict shows: its events where rule 3 or 5 is broken, and none otherwise.
 unfoldable pub ring : Verdict → List ℕ
-ring v = elim (eqb (rule_of v.answer) 3 || eqb (rule_of v.answer) 5) [ true ↦ events v | false ↦ [] ]
+ring v = elim (eqb (rule_of v) 3 || eqb (rule_of v) 5) [ true ↦ events v | false ↦ [] ]
 
 -- The first n steps of the ring l: each is an event, the one after it, and the number that the two have.
 unfoldable pub steps_to : (ℕ → ℕ → ℕ) → List ℕ → ℕ → List (List ℕ)
@@ -36,13 +34,8 @@ pub record Explained (cs : List Clause) (r : Recording ℕ) (l : List ℕ) (step
 
 -- The rest says what the parts do. The steps are those of the ring of a verdict, by the tests of the clauses over the base B.
 abbrev pub StepsBy : List Clause → Base → Verdict → List (List ℕ) → Type 0
-StepsBy cs B v steps = take (length (ring v)) steps ≡ steps_of (number_from 1 (tested nodes B cs)) (ring v)
+StepsBy cs B v steps = steps ≡ steps_of (number_from 1 (tested nodes B cs)) (ring v)
 
--- So many empty relations.
-abbrev pub nones : ℕ → List Rel
-nones zero = []
-nones (suc n) = none ∷ nones n
-
--- The array of so many grids holds the clauses of the base B, and behind them empty ones.
-pub record Held (size : ℕ) (cs : List Clause) (B : Base) (grids : List (List (List ℕ))) : Type 0 where
-  pub clauses : map edge grids ≡ tested nodes B cs ++ nones (size - length cs)
+-- The grids are the clauses of the base B.
+pub record Held (cs : List Clause) (B : Base) (grids : List (List (List ℕ))) : Type 0 where
+  pub clauses : map edge grids ≡ tested nodes B cs

@@ -1,4 +1,4 @@
-// The execution of a loaded recording as arrays: its sets as rows, its relations as grids, each at the place that `verdict` gives it.
+// The base of the execution graph of a loaded recording: its sets as rows, its relations as grids.
 
 #![tactic(auto)]
 
@@ -15,6 +15,7 @@ use reading::{graph, sets};
 use relation::grid::Grid;
 use relation::row::Row;
 use relation::{grid, row};
+use verdict::base::Base;
 
 // All events.
 pub fn events(file: &[u8]) -> Row
@@ -22,41 +23,6 @@ pub fn events(file: &[u8]) -> Row
     ensures { bit result ≡ event (decode file.now) }
 {
     row::or(sets::initial(file), sets::recorded(file))
-}
-
-// The sets: all events, initial writes, reads, writes, fences, acquire and exclusive reads, release and strong writes,
-// acquire, release and SC fences, dmb ld, dmb sy and isb.
-pub fn sets(file: &[u8]) -> [Row; 15]
-    requires { refusal file.now ≡ 0 }
-    ensures { SetsOf (decode file.now) result }
-{
-    let initial = sets::initial(file);
-    let recorded = sets::recorded(file);
-    let classes = sets::sorted(file, recorded, 1);
-    // reads and writes by mode and by flag, fences by mode
-    let reads = sets::sorted(file, classes[1], 2);
-    let exclusive = sets::sorted(file, classes[1], 3);
-    let writes = sets::sorted(file, classes[2], 2);
-    let strong = sets::sorted(file, classes[2], 3);
-    let fences = sets::sorted(file, classes[3], 2);
-    let both = row::or(fences[3], fences[4]);
-    [
-        row::or(initial, recorded),
-        initial,
-        classes[1],
-        row::or(initial, classes[2]),
-        classes[3],
-        reads[1],
-        exclusive[1],
-        writes[2],
-        strong[1],
-        row::or(fences[1], both),
-        row::or(fences[2], both),
-        fences[4],
-        fences[5],
-        fences[6],
-        fences[7],
-    ]
 }
 
 // Control dependencies: the links, taken on to all events later in program order.
@@ -67,23 +33,48 @@ pub fn control(file: &[u8], po: Grid, links: Grid) -> Grid
     grid::then(links, grid::optional(po, events(file)))
 }
 
-// The relations: same location, program order, rf, co, rmw, data, addr, ctrl, casdep.
-pub fn relations(file: &[u8]) -> [Grid; 9]
+// The base: reads and writes are sorted by mode and by flag, fences by mode.
+pub fn base(file: &[u8]) -> Base
     requires { refusal file.now ≡ 0 }
-    ensures { RelationsOf (base nodes (decode file.now)) result }
+    ensures sets { SetsOf (decode file.now) result }
+    ensures relations { RelationsOf (base nodes (decode file.now)) result }
 {
-    let location = graph::same_location(file);
+    let initial = sets::initial(file);
+    let recorded = sets::recorded(file);
+    let classes = sets::sorted(file, recorded, 1);
+    let reads = sets::sorted(file, classes[1], 2);
+    let exclusive = sets::sorted(file, classes[1], 3);
+    let writes = sets::sorted(file, classes[2], 2);
+    let strong = sets::sorted(file, classes[2], 3);
+    let fences = sets::sorted(file, classes[3], 2);
+    let both = row::or(fences[3], fences[4]);
+    let loc = graph::same_location(file);
     let po = graph::program_order(file);
     let rows = graph::rows_by_type(file);
-    [
-        location,
+    Base {
+        events: row::or(initial, recorded),
+        initial,
+        reads: classes[1],
+        writes: row::or(initial, classes[2]),
+        fences: classes[3],
+        racq: reads[1],
+        rex: exclusive[1],
+        wrel: writes[2],
+        wstrong: strong[1],
+        facq: row::or(fences[1], both),
+        frel: row::or(fences[2], both),
+        fsc: fences[4],
+        fld: fences[5],
+        fsy: fences[6],
+        fisb: fences[7],
+        loc,
         po,
-        grid::inverse(rows[1]),
-        graph::coherence(file, grid::inverse(rows[2]), location),
-        grid::inverse(rows[3]),
-        grid::inverse(rows[4]),
-        grid::inverse(rows[5]),
-        control(file, po, grid::inverse(rows[6])),
-        grid::inverse(rows[7]),
-    ]
+        rf: grid::inverse(rows[1]),
+        co: graph::coherence(file, grid::inverse(rows[2]), loc),
+        rmw: grid::inverse(rows[3]),
+        data: grid::inverse(rows[4]),
+        addr: grid::inverse(rows[5]),
+        ctrl: control(file, po, grid::inverse(rows[6])),
+        casdep: grid::inverse(rows[7]),
+    }
 }

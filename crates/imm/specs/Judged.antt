@@ -7,7 +7,7 @@ use Rattle.models.specs.Term.{po, ◌∪◌, ⟦◌⟧, eval}
 use Rattle.models.specs.Imm.{sw, eco}
 use Rattle.models.specs.Rules.{IMM}
 use Rattle.verdict.specs.Shown.{Shown}
-use Rattle.verdict.specs.declared.Verdict.{Verdict}
+use Rattle.verdict.specs.Verdict.{Verdict}
 
 -- r between two events, not from an event to itself.
 unfoldable pub apart : Rel → Rel

@@ -1,112 +1,81 @@
 // The acyclicity relation of IMM, line by line of its definition.
-// Each contract holds for every base that the arguments are taken from.
 
 ghost use Rattle.std.specs.Prelude.{◌≡◌};
 ghost use Rattle.relation.specs.Rel.{nodes};
-ghost use Rattle.relation.specs.Bits.{bit, edge};
-ghost use Rattle.models.specs.Recording.{R, W, F, Racq, Wrel, Fsc};
-ghost use Rattle.models.specs.Graph.{Base};
-ghost use Rattle.models.specs.Term.{eval, po_loc, rfₑ, rfᵢ, coₑ};
+ghost use Rattle.relation.specs.Bits.{edge};
+ghost use Rattle.models.specs.Term.{eval};
 ghost use Rattle.models.specs.Imm as imm;
 ghost use Rattle.verdict.specs.Base.{base_of};
 ghost use Rattle.clause.specs.Steps.{Held};
 
-use clause::Clauses;
 use relation::grid;
 use relation::grid::Grid;
-use relation::row::Row;
-use verdict::base;
-use verdict::base::{Relations, Sets};
+use verdict::base::Base;
 
 // The clauses of bob: po ; [Wrel], [Racq] ; po, po ; [F], [F] ; po, [Wrel] ; po-loc ; [W]
-fn bob(writes: Row, fences: Row, racq: Row, wrel: Row, po: Grid, poloc: Grid) -> [Grid; 5]
-    ensures { (B : Base) → bit writes ≡ B.set W → bit fences ≡ B.set F → bit racq ≡ B.set Racq → bit wrel ≡ B.set Wrel
-        → edge po ≡ B.po → edge poloc ≡ eval nodes po_loc B → Held 5 imm.bob_clauses B result }
+fn bob(b: &Base) -> [Grid; 5]
+    ensures { Held imm.bob_clauses (base_of b.now) result }
 {
     [
-        grid::into(po, wrel),
-        grid::from(racq, po),
-        grid::into(po, fences),
-        grid::from(fences, po),
-        grid::from(wrel, grid::into(poloc, writes)),
+        grid::into(b.po, b.wrel),
+        grid::from(b.racq, b.po),
+        grid::into(b.po, b.fences),
+        grid::from(b.fences, b.po),
+        grid::from(b.wrel, grid::into(b.poloc(), b.writes)),
     ]
 }
 
 // deps = data ∪ ctrl ∪ addr ; po? ∪ casdep ∪ [Rex] ; po
-fn deps(sets: Sets, relations: Relations) -> Grid
-    ensures { edge result ≡ eval nodes imm.deps (base_of sets relations) }
+fn deps(b: &Base) -> Grid
+    ensures { edge result ≡ eval nodes imm.deps (base_of b.now) }
 {
-    let po = relations[base::PO];
-    let link = grid::or(relations[base::DATA], relations[base::CTRL]);
-    let address = grid::then(
-        relations[base::ADDR],
-        grid::optional(po, sets[base::EVENTS]),
-    );
-    let links = grid::or(grid::or(link, address), relations[base::CASDEP]);
-    grid::or(links, grid::from(sets[base::REX], po))
+    let link = grid::or(b.data, b.ctrl);
+    let address = grid::then(b.addr, grid::optional(b.po, b.events));
+    let links = grid::or(grid::or(link, address), b.casdep);
+    grid::or(links, grid::from(b.rex, b.po))
 }
 
 // ppo = [R] ; (deps ∪ rfi)⁺ ; [W]
-fn ppo(reads: Row, writes: Row, rfi: Grid, deps: Grid) -> Grid
-    ensures { (B : Base) → bit reads ≡ B.set R → bit writes ≡ B.set W → edge rfi ≡ eval nodes rfᵢ B → edge deps ≡ eval nodes imm.deps B
-        → edge result ≡ eval nodes imm.ppo B }
+fn ppo(b: &Base) -> Grid
+    ensures { edge result ≡ eval nodes imm.ppo (base_of b.now) }
 {
-    grid::from(
-        reads,
-        grid::into(grid::closure(grid::or(deps, rfi)), writes),
-    )
+    let steps = grid::closure(grid::or(deps(b), b.rfi()));
+    grid::from(b.reads, grid::into(steps, b.writes))
 }
 
 // detour = (coe ; rfe) ∩ po
-fn detour(po: Grid, rfe: Grid, coe: Grid) -> Grid
-    ensures { (B : Base) → edge po ≡ B.po → edge rfe ≡ eval nodes rfₑ B → edge «coe» ≡ eval nodes coₑ B
-        → edge result ≡ eval nodes imm.detour B }
+fn detour(b: &Base) -> Grid
+    ensures { edge result ≡ eval nodes imm.detour (base_of b.now) }
 {
-    grid::and(grid::then(coe, rfe), po)
+    grid::and(grid::then(b.coe(), b.rfe()), b.po)
 }
 
 // psc = [Fsc] ; hb ; eco ; hb ; [Fsc]
-fn psc(fsc: Row, hb: Grid, eco: Grid) -> Grid
-    ensures { (B : Base) → bit fsc ≡ B.set Fsc → edge hb ≡ eval nodes imm.hb B → edge eco ≡ eval nodes imm.eco B
-        → edge result ≡ eval nodes imm.psc B }
+fn psc(b: &Base, hb: Grid, eco: Grid) -> Grid
+    ensures { edge hb ≡ eval nodes imm.hb (base_of b.now) → edge eco ≡ eval nodes imm.eco (base_of b.now)
+        → edge result ≡ eval nodes imm.psc (base_of b.now) }
 {
-    let last = grid::then(eco, grid::into(hb, fsc));
-    grid::then(grid::from(fsc, hb), last)
+    let last = grid::then(eco, grid::into(hb, b.fsc));
+    grid::then(grid::from(b.fsc, hb), last)
 }
 
 // The clauses of ar: rfe, those of bob, ppo, detour, psc, [Wstrong] ; po ; [W]
-pub fn clauses(
-    sets: Sets,
-    relations: Relations,
-    poloc: Grid,
-    rfe: Grid,
-    rfi: Grid,
-    coe: Grid,
-    hb: Grid,
-    eco: Grid,
-) -> Clauses
-    ensures { (let B : Base = base_of sets relations in
-        edge poloc ≡ eval nodes po_loc B → edge rfe ≡ eval nodes rfₑ B → edge rfi ≡ eval nodes rfᵢ B → edge «coe» ≡ eval nodes coₑ B
-        → edge hb ≡ eval nodes imm.hb B → edge eco ≡ eval nodes imm.eco B
-        → Held 14 imm.ar_clauses B result) }
+pub fn clauses(b: &Base, hb: Grid, eco: Grid) -> [Grid; 10]
+    ensures { edge hb ≡ eval nodes imm.hb (base_of b.now) → edge eco ≡ eval nodes imm.eco (base_of b.now)
+        → Held imm.ar_clauses (base_of b.now) result }
 {
-    let po = relations[base::PO];
-    let writes = sets[base::WRITES];
-    let b = bob(
-        writes,
-        sets[base::FENCES],
-        sets[base::RACQ],
-        sets[base::WREL],
-        po,
-        poloc,
-    );
-    let deps = deps(sets, relations);
-    let ppo = ppo(sets[base::READS], writes, rfi, deps);
-    let detour = detour(po, rfe, coe);
-    let psc = psc(sets[base::FSC], hb, eco);
-    let strong = grid::from(sets[base::WSTRONG], grid::into(po, writes));
-    let none = grid::empty();
+    let bob = bob(b);
+    let strong = grid::from(b.wstrong, grid::into(b.po, b.writes));
     [
-        rfe, b[0], b[1], b[2], b[3], b[4], ppo, detour, psc, strong, none, none, none, none,
+        b.rfe(),
+        bob[0],
+        bob[1],
+        bob[2],
+        bob[3],
+        bob[4],
+        ppo(b),
+        detour(b),
+        psc(b, hb, eco),
+        strong,
     ]
 }

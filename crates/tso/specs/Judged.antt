@@ -2,7 +2,7 @@
 use Rattle.models.specs.Graph.{Base}
 use Rattle.models.specs.Tso.{tso}
 use Rattle.verdict.specs.PerLocation.{PerLocation}
-use Rattle.verdict.specs.declared.Verdict.{Verdict}
+use Rattle.verdict.specs.Verdict.{Verdict}
 
 -- "rule 3 is ARMv8's": SC-per-location. Rule 5 is of tso: "An allowed line goes by this relation, and a ring shown is a shortest one".
 abbrev pub Judged : Base → Verdict → Type 0

@@ -8,20 +8,17 @@ pub mod why;
 ghost use Rattle.verdict.specs.Base.{base_of};
 ghost use Rattle.tso.specs.Judged.{Judged};
 
-use verdict::base::{Relations, Sets};
-use verdict::{Verdict, base, per_location, rules, shown};
+use verdict::base::Base;
+use verdict::{Verdict, per_location, shown};
 
 // The verdict, and what is shown of it.
-pub fn judge(sets: Sets, relations: Relations) -> Verdict
-    ensures { Judged (base_of sets relations) result }
+pub fn judge(b: &Base) -> Verdict
+    ensures { Judged (base_of b.now) result }
 {
-    let fr = rules::fr(relations[base::RF], relations[base::CO]);
+    let fr = b.fr();
     // Rules 1 to 4.
-    let broken = per_location::tried(sets, relations, fr);
-    if broken.len != 0 {
-        return broken;
-    }
+    per_location::tried(b, fr)?;
     // Rule 5: tso = ppo ∪ fenced ∪ rfe ∪ co ∪ fr
-    let tso = clause::union(order::clauses(sets, relations, fr));
-    shown::acyclicity(tso, sets[base::EVENTS])
+    let tso = clause::union(&order::clauses(b, fr));
+    shown::acyclicity(tso, b.events)
 }

@@ -5,14 +5,12 @@ ghost use Rattle.verdict.specs.Base.{base_of};
 ghost use Rattle.clause.specs.Steps.{Held};
 
 use crate::order;
-use clause::Clauses;
-use verdict::base::{Relations, Sets};
-use verdict::{base, rules};
+use relation::grid::Grid;
+use verdict::base::Base;
 
 // Rule 5: those of tso.
-pub fn order(sets: Sets, relations: Relations) -> Clauses
-    ensures { Held 14 tso_rings.rule5 (base_of sets relations) result }
+pub fn order(b: &Base) -> [Grid; 7]
+    ensures { Held tso_rings.rule5 (base_of b.now) result }
 {
-    let fr = rules::fr(relations[base::RF], relations[base::CO]);
-    order::clauses(sets, relations, fr)
+    order::clauses(b, b.fr())
 }

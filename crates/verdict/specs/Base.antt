@@ -1,38 +1,39 @@
--- The base of an execution graph that two arrays hold: its sets as rows, its relations as grids.
-use Rattle.std.specs.Prelude.{List, [], ℕ, get_or}
+-- The base of an execution graph that rows and grids hold.
+use Rattle.std.specs.Prelude.{List, ℕ}
 use Rattle.relation.specs.Bits.{bit, edge}
 use Rattle.models.specs.Recording.{SetName, R, W, F, Racq, Rex, Wrel, Wstrong, Facq, Frel, Fsc, Fld, Fsy, Fisb}
-use Rattle.models.specs.Graph.{Base}
+use Rattle.models.specs.Graph as graph
+use Rattle.verdict.specs.declared.base.Base.{Base}
 
--- The place of a set, behind the events and the initial writes.
-abbrev pub place : SetName → ℕ
-place R = 2
-place W = 3
-place F = 4
-place Racq = 5
-place Rex = 6
-place Wrel = 7
-place Wstrong = 8
-place Facq = 9
-place Frel = 10
-place Fsc = 11
-place Fld = 12
-place Fsy = 13
-place Fisb = 14
+-- The row of a set.
+abbrev pub row_of : Base → SetName → List ℕ
+row_of b R = b.reads
+row_of b W = b.writes
+row_of b F = b.fences
+row_of b Racq = b.racq
+row_of b Rex = b.rex
+row_of b Wrel = b.wrel
+row_of b Wstrong = b.wstrong
+row_of b Facq = b.facq
+row_of b Frel = b.frel
+row_of b Fsc = b.fsc
+row_of b Fld = b.fld
+row_of b Fsy = b.fsy
+row_of b Fisb = b.fisb
 
-unfoldable pub base_of : List (List ℕ) → List (List (List ℕ)) → Base
-base_of sets relations =
+unfoldable pub base_of : Base → graph.Base
+base_of b =
     record {
-      E = bit (get_or sets 0 []);
-      Init = bit (get_or sets 1 []);
-      set = λ s. bit (get_or sets (place s) []);
-      loc = edge (get_or relations 0 []);
-      po = edge (get_or relations 1 []);
-      rf = edge (get_or relations 2 []);
-      co = edge (get_or relations 3 []);
-      rmw = edge (get_or relations 4 []);
-      «data» = edge (get_or relations 5 []);
-      addr = edge (get_or relations 6 []);
-      ctrl = edge (get_or relations 7 []);
-      casdep = edge (get_or relations 8 []);
+      E = bit b.events;
+      Init = bit b.initial;
+      set = λ s. bit (row_of b s);
+      loc = edge b.loc;
+      po = edge b.po;
+      rf = edge b.rf;
+      co = edge b.co;
+      rmw = edge b.rmw;
+      «data» = edge b.«data»;
+      addr = edge b.addr;
+      ctrl = edge b.ctrl;
+      casdep = edge b.casdep;
     }

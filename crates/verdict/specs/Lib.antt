@@ -1,5 +1,5 @@
 -- The definitions that the contracts of `verdict` cite.
-pub mod Answer
+pub mod Verdict
 pub mod Base
 pub mod Shown
 pub mod PerLocation

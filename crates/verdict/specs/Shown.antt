@@ -1,18 +1,14 @@
 -- What a verdict says and shows (01, "What is shown"), for any model.
-use Rattle.std.specs.Prelude.{◌≡◌, true, List, [], ◌∷◌, ℕ, ◌<◌, ◌≤◌, take}
+use Rattle.std.specs.Prelude.{◌≡◌, true, List, [], ◌∷◌, ℕ, ◌<◌, ◌≤◌, length, take, Option, IfSome, IfNone, Result, Err, IfOk, IfErr}
 use Rattle.relation.specs.Rel.{Rel, some, least, nodes}
 use Rattle.relation.specs.Ring.{ShortestRing, closed}
 use Rattle.relation.specs.Order.{order}
 use Rattle.models.specs.Graph.{Base}
 use Rattle.models.specs.Term.{eval}
 use Rattle.models.specs.Rules.{Model, broken_pair, first, unread, unordered, failures, verdict}
-use Rattle.verdict.specs.declared.Answer.{Answer}
-use Rattle.verdict.specs.declared.Verdict.{Verdict}
-use Rattle.verdict.specs.Answer.{answers}
-
--- The events that a verdict shows.
-abbrev pub events : Verdict → List ℕ
-events v = take v.len v.at
+use Rattle.verdict.specs.declared.Broken.{Broken}
+use Rattle.verdict.specs.declared.rules.Pair.{Pair}
+use Rattle.verdict.specs.Verdict.{Verdict, rule_of, events}
 
 -- "the pair with smallest first, then second": 64 for the first where r has no pair.
 unfoldable pub first_of : Rel → ℕ
@@ -25,8 +21,8 @@ second_of r = least 64 (r (first_of r))
 -- steps and closing are the relations of rule 3's ring: of its steps, and of the step that closes it.
 pub record Shown (steps closing : Rel) (M : Model) (B : Base) (v : Verdict) : Type 0 where
   -- Broken when one of the model's five rules fails, the first one named, and allowed when none does.
-  pub answer : v.answer ≡ answers (verdict nodes B M)
-  pub bound : v.len ≤ 64
+  pub answer : rule_of v ≡ verdict nodes B M
+  pub bound : length (events v) ≤ 64
   -- "Allowed: all events ordered by ar or ob, always taking next the smallest number whose predecessors are out."
   pub allowed : verdict nodes B M ≡ 0 → events v ≡ order 64 (eval nodes M.order B) B.E
   -- "Broken 1: the smallest such read."
@@ -42,25 +38,19 @@ pub record Shown (steps closing : Rel) (M : Model) (B : Base) (v : Verdict) : Ty
 
 -- The rest says what the parts of a verdict do.
 
--- (a, b) is the first pair of r.
-pub record FirstPair (r : Rel) (a b : ℕ) : Type 0 where
-  pub first : a ≡ first_of r
-  pub second : a < 64 → b ≡ second_of r
-
--- v has this answer and shows these events.
-pub record Says (v : Verdict) (a : Answer) (l : List ℕ) : Type 0 where
-  pub answer : v.answer ≡ a
-  pub bound : v.len ≤ 64
-  pub shows : events v ≡ l
+-- p is the first pair of r, and None where it has none.
+pub record FirstPair (r : Rel) (p : Option Pair) : Type 0 where
+  pub none : IfNone p (first_of r ≡ 64)
+  pub pair : IfSome p (λ p. (p.first ≡ first_of r) × (p.second ≡ second_of r) × (p.first < 64) × (p.second < 64))
 
 -- Rules 1 to k of the model M hold over B.
 abbrev pub Hold : ℕ → Model → Base → Type 0
 Hold k M B = first (take k (failures nodes B M)) ≡ 0
 
--- v is what is found where rules up to k are tried: the verdict where one is broken; else no event, and they hold.
-pub record Tried (k : ℕ) (steps closing : Rel) (M : Model) (B : Base) (v : Verdict) : Type 0 where
-  pub broken : (v.len ≡ 0 → ⊥) → Shown steps closing M B v
-  pub holds : v.len ≡ 0 → Hold k M B
+-- r is what is found where rules up to k are tried: the verdict where one is broken; else they hold.
+pub record Tried {A : Type 0} (k : ℕ) (steps closing : Rel) (M : Model) (B : Base) (r : Result A Broken) : Type 0 where
+  pub broken : IfErr r (λ b. Shown steps closing M B (Err b))
+  pub holds : IfOk r (λ _. Hold k M B)
 
 -- Wherever rule 3 is broken, steps and a closing step come back to an event.
 abbrev pub Around : Model → Base → Rel → Rel → Type 0

@@ -1,59 +1,85 @@
-// The base of an execution graph as arrays: its sets as rows, its relations as grids, each at a fixed place.
-// specs/Base.antt reads the same places.
+// The base of an execution graph: its sets as rows, its relations as grids, and the relations that follow from them at once.
 
+ghost use Rattle.std.specs.Prelude.{◌≡◌};
+ghost use Rattle.relation.specs.Rel.{nodes};
+ghost use Rattle.relation.specs.Bits.{edge};
+ghost use Rattle.models.specs.Term.{eval, po_loc, rfₑ, rfᵢ, coₑ, coᵢ};
+ghost use Rattle.models.specs.Term as term;
+
+use relation::grid;
 use relation::grid::Grid;
 use relation::row::Row;
 
-pub type Sets = [Row; 15];
+#[derive(Drop)]
+pub struct Base {
+    pub events: Row,
+    pub initial: Row,
+    pub reads: Row,
+    pub writes: Row,
+    pub fences: Row,
+    pub racq: Row,
+    pub rex: Row,
+    pub wrel: Row,
+    pub wstrong: Row,
+    pub facq: Row,
+    pub frel: Row,
+    pub fsc: Row,
+    pub fld: Row,
+    pub fsy: Row,
+    pub fisb: Row,
+    pub loc: Grid,
+    pub po: Grid,
+    pub rf: Grid,
+    pub co: Grid,
+    pub rmw: Grid,
+    pub data: Grid,
+    pub addr: Grid,
+    pub ctrl: Grid,
+    pub casdep: Grid,
+}
 
-pub type Relations = [Grid; 9];
+impl Base {
+    ghost use Rattle.verdict.specs.Base.{base_of};
 
-// Places of the sets.
-pub const EVENTS: usize = 0;
+    // po-loc: program order between events of one location.
+    pub fn poloc(&self) -> Grid
+        ensures { edge result ≡ eval nodes po_loc (base_of self.now) }
+    {
+        grid::and(self.po, self.loc)
+    }
 
-pub const INITIAL: usize = 1;
+    // rfe: rf between threads.
+    pub fn rfe(&self) -> Grid
+        ensures { edge result ≡ eval nodes rfₑ (base_of self.now) }
+    {
+        grid::minus(self.rf, self.po)
+    }
 
-pub const READS: usize = 2;
+    // rfi: rf within a thread.
+    pub fn rfi(&self) -> Grid
+        ensures { edge result ≡ eval nodes rfᵢ (base_of self.now) }
+    {
+        grid::and(self.rf, self.po)
+    }
 
-pub const WRITES: usize = 3;
+    // coe: co between threads.
+    pub fn coe(&self) -> Grid
+        ensures { edge result ≡ eval nodes coₑ (base_of self.now) }
+    {
+        grid::minus(self.co, self.po)
+    }
 
-pub const FENCES: usize = 4;
+    // coi: co within a thread.
+    pub fn coi(&self) -> Grid
+        ensures { edge result ≡ eval nodes coᵢ (base_of self.now) }
+    {
+        grid::and(self.co, self.po)
+    }
 
-pub const RACQ: usize = 5;
-
-pub const REX: usize = 6;
-
-pub const WREL: usize = 7;
-
-pub const WSTRONG: usize = 8;
-
-pub const FACQ: usize = 9;
-
-pub const FREL: usize = 10;
-
-pub const FSC: usize = 11;
-
-pub const FLD: usize = 12;
-
-pub const FSY: usize = 13;
-
-pub const FISB: usize = 14;
-
-// Places of the relations.
-pub const LOC: usize = 0;
-
-pub const PO: usize = 1;
-
-pub const RF: usize = 2;
-
-pub const CO: usize = 3;
-
-pub const RMW: usize = 4;
-
-pub const DATA: usize = 5;
-
-pub const ADDR: usize = 6;
-
-pub const CTRL: usize = 7;
-
-pub const CASDEP: usize = 8;
+    // fr = rf⁻¹ ; co, from a read to all writes co-after its source.
+    pub fn fr(&self) -> Grid
+        ensures { edge result ≡ eval nodes term.fr (base_of self.now) }
+    {
+        grid::then(grid::inverse(self.rf), self.co)
+    }
+}

@@ -1,21 +1,20 @@
 // What rules 1, 2 and 4 forbid, which every model has alike.
-// Each contract holds for every base that the arguments are taken from.
 
 ghost use Rattle.std.specs.Prelude.{◌≡◌};
 ghost use Rattle.relation.specs.Rel.{nodes};
 ghost use Rattle.relation.specs.Bits.{bit, edge};
-ghost use Rattle.models.specs.Recording.{R, W};
 ghost use Rattle.models.specs.Graph.{Base};
 ghost use Rattle.models.specs.Term.{eval, frₑ, coₑ};
-ghost use Rattle.models.specs.Term as term;
 ghost use Rattle.models.specs.Rules as models;
+ghost use Rattle.verdict.specs.Base.{base_of};
 ghost use Rattle.verdict.specs.Shown.{FirstPair};
 
+use crate::base;
 use relation::grid::Grid;
 use relation::row::Row;
 use relation::{grid, row};
 
-// A pair of a relation, or 64 for the first where there is none.
+// A pair of a relation.
 #[derive(Clone, Copy)]
 pub struct Pair {
     pub first: usize,
@@ -23,44 +22,32 @@ pub struct Pair {
 }
 
 // Rule 1: the reads without rf.
-pub fn unread(reads: Row, rf: Grid) -> Row
-    ensures { (B : Base) → bit reads ≡ B.set R → edge rf ≡ B.rf → bit result ≡ models.unread nodes B }
+pub fn unread(base: &base::Base) -> Row
+    ensures { bit result ≡ models.unread nodes (base_of base.now) }
 {
-    row::minus(reads, grid::image(row::all(), rf))
+    row::minus(base.reads, grid::image(row::all(), base.rf))
 }
 
 // Rule 2: the first two writes of a location that co does not order.
-pub fn unordered(writes: Row, loc: Grid, co: Grid) -> Pair
-    ensures { (B : Base) → bit writes ≡ B.set W → edge loc ≡ B.loc → edge co ≡ B.co
-        → FirstPair (models.unordered nodes B) result.first result.second }
+pub fn unordered(base: &base::Base) -> Option<Pair>
+    ensures { FirstPair (models.unordered nodes (base_of base.now)) result }
 {
     // Two writes need no order where they are one, or where co orders them.
-    let settled = grid::optional(grid::or(co, grid::inverse(co)), writes);
-    let mut a = row::first(writes);
-    let mut b: usize = 64;
-    'pairs: while a < 64 {
-        let peers = row::and(writes, loc[a]);
-        let ordered = settled[a];
-        b = row::first(peers);
-        while b < 64 {
-            if !row::has(ordered, b) {
+    let settled = grid::optional(
+        grid::or(base.co, grid::inverse(base.co)),
+        base.writes,
+    );
+    let mut found = None;
+    'pairs: for first in row::members(base.writes) {
+        let peers = row::and(base.writes, base.loc[first]);
+        for second in row::members(peers) {
+            if !row::has(settled[first], second) {
+                found = Some(Pair { first, second });
                 break 'pairs;
             }
-            b = row::next(peers, b + 1);
         }
-        a = row::next(writes, a + 1);
     }
-    Pair {
-        first: a,
-        second: b,
-    }
-}
-
-// fr = rf⁻¹ ; co, from a read to all writes co-after its source.
-pub fn fr(rf: Grid, co: Grid) -> Grid
-    ensures { (B : Base) → edge rf ≡ B.rf → edge co ≡ B.co → edge result ≡ eval nodes term.fr B }
-{
-    grid::then(grid::inverse(rf), co)
+    found
 }
 
 // Rule 4: the rmw pairs that are also fre then coe.
@@ -72,18 +59,10 @@ pub fn broken_pairs(rmw: Grid, fre: Grid, coe: Grid) -> Grid
 }
 
 // The first pair of a relation.
-pub fn first_pair(g: Grid) -> Pair
-    ensures { FirstPair (edge g) result.first result.second }
+pub fn first_pair(g: Grid) -> Option<Pair>
+    ensures { FirstPair (edge g) result }
 {
-    let a = row::first(grid::image(row::all(), grid::inverse(g)));
-    if 64 <= a {
-        return Pair {
-            first: a,
-            second: a,
-        };
-    }
-    Pair {
-        first: a,
-        second: row::first(g[a]),
-    }
+    let first = row::first(grid::image(row::all(), grid::inverse(g)))?;
+    let second = row::first(g[first])?;
+    Some(Pair { first, second })
 }
