@@ -1,21 +1,13 @@
--- `holds` meets its contract: a grid holds no pair of numbers from 64 on.
-use mathlib.Core.Bool.{false}
-use mathlib.Core.Path.{◌≡◌, sym}
-use mathlib.Core.List.{List}
-use Prim.Native.Nat.{ℕ, ◌<◌}
-use native.Mathlib.Omega.{arith}
-use lib.ListN.{length}
+use Rattle.std.proofs.Common.{rules, ◌≡◌, List, map, ◌<◌, ◌≤◌, length, ℕ, ◌+◌, ◌-◌, ◌*◌, ◌/◌, ◌%◌, Bool, true, false, nat_eq, nat_lt, [], ◌∷◌, ◌++◌, slice_index_or, slice_set, bit_and, bit_or, Fits, w8, w32, w64, Bor, MutBor}
 use Rattle.relation.specs.Bits.{edge}
-use Rattle.relation.proofs.Truth.{is_false}
-use Rattle.relation.proofs.Walks.{edge_inside}
-use borrow.Author.Rules.{rules}
+use Rattle.relation.specs.Ring.{after}
+use Rattle.models.specs.Graph.{Base}
+use Rattle.models.specs.Armv8.{sc_per_loc_clauses}
+use Rattle.models.specs.Clause.{Clause, number_from, unions}
+use Rattle.verdict.specs.Base.{base_of}
+use Rattle.clause.specs.Steps.{ring, steps_of, Held, StepsBy}
 use Rattle.clause.proofs.holds.Goals as goal
 
-outside : (g : List (List ℕ)) → length g ≡ 64 → (a b : ℕ) → (a < 64 → b < 64 → ⊥) → false ≡ edge g a b
-outside g l a b h = let inside = edge_inside g l in sym (is_false (edge g a b) (λ e. h (inside.source a b e) (inside.target a b e)))
-
-pub returns-then-a-ge64 : goal.returns-then-a-ge64
-returns-then-a-ge64 c = outside _ (search rules) _ _ (λ p q. omega (arith, c.if-a-ge64.true))
-
-pub returns-then-b-ge64 : goal.returns-then-b-ge64
-returns-then-b-ge64 c = outside _ (search rules) _ _ (λ p q. omega (arith, c.if-b-ge64.true))
+-- src/lib.rt:36:1
+pub returns-else-b-lt64 : goal.returns-else-b-lt64
+returns-else-b-lt64 c = ?

@@ -1,10 +1,13 @@
--- `per_location` meets its contract: its clauses, call by call.
-use mathlib.Core.Path.{refl}
-use Rattle.models.specs.Term.{eval}
-use Rattle.verdict.proofs.TermLaws.{terms}
-use Rattle.clause.proofs.StepLaws.{held_each, arrays}
+use Rattle.std.proofs.Common.{rules, ◌≡◌, List, map, ◌<◌, ◌≤◌, length, ℕ, ◌+◌, ◌-◌, ◌*◌, ◌/◌, ◌%◌, Bool, true, false, nat_eq, nat_lt, [], ◌∷◌, ◌++◌, slice_index_or, slice_set, bit_and, bit_or, Fits, w8, w32, w64, Bor, MutBor}
+use Rattle.relation.specs.Bits.{edge}
+use Rattle.relation.specs.Ring.{after}
+use Rattle.models.specs.Graph.{Base}
+use Rattle.models.specs.Armv8.{sc_per_loc_clauses}
+use Rattle.models.specs.Clause.{Clause, number_from, unions}
+use Rattle.verdict.specs.Base.{base_of}
+use Rattle.clause.specs.Steps.{ring, steps_of, Held, StepsBy}
 use Rattle.clause.proofs.per_location.Goals as goal
 
+-- src/lib.rt:89:1
 pub returns : goal.returns
-unfolding eval
-returns c = λ B p l r f o. held_each 14 refl (search (arrays, terms) depth 18)
+returns c = ?

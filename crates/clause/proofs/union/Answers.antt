@@ -1,16 +1,21 @@
--- `union` meets its contract: k of the clauses are joined.
-use native.Mathlib.Omega.{arith}
-use Rattle.clause.proofs.StepLaws.{joined_none, joined_more, joined_all}
-use borrow.Author.Rules.{rules}
+use Rattle.std.proofs.Common.{rules, ◌≡◌, List, map, ◌<◌, ◌≤◌, length, ℕ, ◌+◌, ◌-◌, ◌*◌, ◌/◌, ◌%◌, Bool, true, false, nat_eq, nat_lt, [], ◌∷◌, ◌++◌, slice_index_or, slice_set, bit_and, bit_or, Fits, w8, w32, w64, Bor, MutBor}
+use Rattle.relation.specs.Bits.{edge}
+use Rattle.relation.specs.Ring.{after}
+use Rattle.models.specs.Graph.{Base}
+use Rattle.models.specs.Armv8.{sc_per_loc_clauses}
+use Rattle.models.specs.Clause.{Clause, number_from, unions}
+use Rattle.verdict.specs.Base.{base_of}
+use Rattle.clause.specs.Steps.{ring, steps_of, Held, StepsBy}
 use Rattle.clause.proofs.union.Goals as goal
 
-pub loop-k-init : goal.loop-k-init
-loop-k-init c = (search rules, joined_none _ _ c.empty-r.ensures)
+-- src/lib.rt:28:5
+pub loop-clause-init : goal.loop-clause-init
+loop-clause-init c = ?
 
-pub loop-k-preserved : goal.loop-k-preserved
-loop-k-preserved c =
-    let inv = c.loop-k.invariant in
-    (inv.0, joined_more _ _ _ _ (omega (arith, inv.0, c.loop-k-test.true)) inv.1 c.or-z.ensures)
+-- src/lib.rt:28:5
+pub loop-clause-preserved : goal.loop-clause-preserved
+loop-clause-preserved c = ?
 
+-- src/lib.rt:24:1
 pub returns : goal.returns
-returns c = let inv = c.loop-k.invariant in joined_all _ _ _ (omega (arith, inv.0, c.loop-k-test.false)) inv.1
+returns c = ?

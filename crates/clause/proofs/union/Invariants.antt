@@ -1,13 +1,12 @@
--- `union` meets its contract: k of the clauses are joined.
-use Prim.Native.Nat.{◌-◌}
-use lib.ListN.{length}
-use mathlib.Core.Path.{◌≡◌}
+use Rattle.std.proofs.Common.{◌≡◌, List, map, ◌<◌, ◌≤◌, length, ℕ, ◌+◌, ◌-◌, ◌*◌}
 use Rattle.relation.specs.Bits.{edge}
-use Rattle.clause.proofs.StepLaws.{Joined}
+use Rattle.relation.specs.Ring.{after}
+use Rattle.models.specs.Graph.{Base}
+use Rattle.models.specs.Armv8.{sc_per_loc_clauses}
+use Rattle.models.specs.Clause.{Clause, number_from, unions}
+use Rattle.verdict.specs.Base.{base_of}
+use Rattle.clause.specs.Steps.{ring, steps_of, Held, StepsBy}
 use Rattle.clause.proofs.union.Given as goal
 
-abbrev pub invariant-loop-k : goal.invariant-loop-k
-invariant-loop-k l = (length l.clauses ≡ 14) × Joined l.clauses l.k (edge l.r)
-
-abbrev pub decreases-loop-k : goal.decreases-loop-k
-decreases-loop-k l = 14 - l.k
+abbrev pub invariant-loop-clause : goal.invariant-loop-clause
+invariant-loop-clause l = ?

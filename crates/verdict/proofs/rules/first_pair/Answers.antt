@@ -1,13 +1,29 @@
--- `rules::first_pair` meets its contract: the smallest event that the relation leads from, and the smallest that it leads to.
--- The smallest event that the relation leads from.
-use mathlib.Core.Path.{refl}
-use Rattle.relation.specs.Bits.{edge}
-use Rattle.verdict.proofs.PairLaws.{first_of_pairs, first_none, first_pair}
+use Rattle.std.proofs.Common.{rules, ◌≡◌, ℕ, ◌+◌, ◌-◌, ◌*◌, ◌<◌, ◌≤◌, length, ◌/◌, ◌%◌, Bool, true, false, nat_eq, nat_lt, List, [], ◌∷◌, ◌++◌, slice_index_or, slice_set, bit_and, bit_or, Fits, w8, w32, w64, Bor, MutBor}
+use Rattle.relation.specs.Rel.{nodes}
+use Rattle.relation.specs.Bits.{bit, edge}
+use Rattle.models.specs.Graph.{Base}
+use Rattle.models.specs.Term.{eval, frₑ, coₑ}
+use Rattle.models.specs.Rules as models
+use Rattle.verdict.specs.Base.{base_of}
+use Rattle.verdict.specs.Shown.{FirstPair}
 use Rattle.verdict.proofs.rules.first_pair.Goals as goal
 
-pub returns-then-a-ge64 : goal.returns-then-a-ge64
-returns-then-a-ge64 c = first_none (first_of_pairs _ c.all.ensures c.inverse.ensures c.image.ensures c.first-a.ensures) c.if-a-ge64.true
+-- src/rules.rt:65:17
+pub returns-in_err-first : goal.returns-in_err-first
+returns-in_err-first c = ?
 
+-- src/rules.rt:66:29
+pub offset_bounds-g-first : goal.offset_bounds-g-first
+offset_bounds-g-first c = ?
+
+-- src/rules.rt:66:29
+pub bounds-g-first : goal.bounds-g-first
+bounds-g-first c = ?
+
+-- src/rules.rt:66:18
+pub returns-in_err-second : goal.returns-in_err-second
+returns-in_err-second c = ?
+
+-- src/rules.rt:62:1
 pub returns : goal.returns
-unfolding edge
-returns c = first_pair (first_of_pairs _ c.all.ensures c.inverse.ensures c.image.ensures c.first-a.ensures) refl c.first.ensures
+returns c = ?

@@ -1,46 +1,25 @@
--- `rules::unordered` meets its contract. No write before a has an unsettled peer; in a's turn no peer before b is unsettled.
-use mathlib.Core.Path.{refl, sym, subst, ◌∙◌}
-use native.Mathlib.Omega.{arith}
-use Rattle.relation.specs.Rel.{Rel}
-use Rattle.relation.specs.Bits.{edge}
-use Rattle.relation.proofs.SetLaws.{seeking_first, seeking_next}
+use Rattle.std.proofs.Common.{rules, ◌≡◌, ℕ, ◌+◌, ◌-◌, ◌*◌, ◌<◌, ◌≤◌, length, ◌/◌, ◌%◌, Bool, true, false, nat_eq, nat_lt, List, [], ◌∷◌, ◌++◌, slice_index_or, slice_set, bit_and, bit_or, Fits, w8, w32, w64, Bor, MutBor}
+use Rattle.relation.specs.Rel.{nodes}
+use Rattle.relation.specs.Bits.{bit, edge}
+use Rattle.models.specs.Graph.{Base}
+use Rattle.models.specs.Term.{eval, frₑ, coₑ}
+use Rattle.models.specs.Rules as models
+use Rattle.verdict.specs.Base.{base_of}
 use Rattle.verdict.specs.Shown.{FirstPair}
-use Rattle.verdict.proofs.PairLaws.{pairs_first, pairs_next, pairs_none, pairs_found, no_peer, ordered_peer, unordered_is}
 use Rattle.verdict.proofs.rules.unordered.Goals as goal
 
+-- src/rules.rt:41:5
 pub pairs-init : goal.pairs-init
-pairs-init c = pairs_first _ _ _ _ c.first-a.ensures
+pairs-init c = ?
 
-pub loop-b-init : goal.loop-b-init
-loop-b-init c = seeking_first _ _ (no_peer _ _) _ c.first-b.ensures
+-- src/rules.rt:43:9
+pub loop-second-init : goal.loop-second-init
+loop-second-init c = ?
 
-pub loop-b-smaller : goal.loop-b-smaller
-loop-b-smaller c = omega (arith, c.next-b.ensures.low, c.loop-b-test.true)
-
-pub loop-b-preserved : goal.loop-b-preserved
-loop-b-preserved c =
-    seeking_next _ _ (no_peer _ _) _ c.loop-b.invariant
-    (ordered_peer _ _ _ (sym c.has.ensures ∙ c.if-not-has.false)) _ c.next-b.ensures
-
-pub pairs-smaller : goal.pairs-smaller
-pairs-smaller c = omega (arith, c.next-a.ensures.low, c.pairs-test.true)
-
+-- src/rules.rt:41:5
 pub pairs-preserved : goal.pairs-preserved
-unfolding edge
-pairs-preserved c =
-    pairs_next _ _ _ _ c.pairs.invariant c.pairs-test.true _ _ c.and-peers.ensures refl _ c.loop-b.invariant
-    c.loop-b-test.false _ c.next-a.ensures
+pairs-preserved c = ?
 
-pub returns-after-pairs : goal.returns-after-pairs
-returns-after-pairs c =
-    λ B p q r. subst (λ (f : Rel). FirstPair f c.pairs.a c.pairs.b)
-    (unordered_is c.inverse.ensures c.or.ensures c.optional-settled.ensures B p q r)
-    (pairs_none _ _ _ _ _ c.pairs.invariant c.pairs-test.false)
-
-pub returns-then-not-has : goal.returns-then-not-has
-unfolding edge
-returns-then-not-has c =
-    λ B p q r. subst (λ (f : Rel). FirstPair f c.pairs.a c.loop-b.b)
-    (unordered_is c.inverse.ensures c.or.ensures c.optional-settled.ensures B p q r)
-    (pairs_found _ _ _ _ c.pairs.invariant c.pairs-test.true _ _ c.and-peers.ensures refl _ c.loop-b.invariant
-    c.loop-b-test.true (sym c.has.ensures ∙ c.if-not-has.true))
+-- src/rules.rt:43:9
+pub loop-second-preserved : goal.loop-second-preserved
+loop-second-preserved c = ?

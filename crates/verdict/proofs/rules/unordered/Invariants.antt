@@ -1,19 +1,17 @@
--- `rules::unordered` meets its contract. No write before a has an unsettled peer; in a's turn no peer before b is unsettled.
-use Prim.Native.Nat.{◌-◌}
-use Rattle.relation.specs.Rel.{difference}
+use Rattle.std.proofs.Common.{◌≡◌, ℕ, ◌+◌, ◌-◌, ◌*◌, ◌<◌, ◌≤◌, length}
+use Rattle.relation.specs.Rel.{nodes}
 use Rattle.relation.specs.Bits.{bit, edge}
-use Rattle.relation.proofs.SetLaws.{Seeking}
-use Rattle.verdict.proofs.PairLaws.{Passing}
+use Rattle.models.specs.Graph.{Base}
+use Rattle.models.specs.Term.{eval, frₑ, coₑ}
+use Rattle.models.specs.Rules as models
+use Rattle.verdict.specs.Base.{base_of}
+use Rattle.verdict.specs.Shown.{FirstPair}
 use Rattle.verdict.proofs.rules.unordered.Given as goal
 
-abbrev pub invariant-loop-b : goal.invariant-loop-b
-invariant-loop-b l = Seeking (bit l.peers) (difference (bit l.peers) (bit l.ordered)) l.b
-
-abbrev pub decreases-loop-b : goal.decreases-loop-b
-decreases-loop-b l = 64 - l.b
+abbrev pub invariant-loop-second : goal.invariant-loop-second
+invariant-loop-second l = ?
 
 abbrev pub invariant-pairs : goal.invariant-pairs
-invariant-pairs l = Passing (bit l.writes) (edge l.loc) (edge l.settled) l.a
-
-abbrev pub decreases-pairs : goal.decreases-pairs
-decreases-pairs l = 64 - l.a
+invariant-pairs l =
+    (goal.iterator-pairs).can_next l.first-iterator ×
+    (goal.iterator-pairs).is_finite l.first-iterator

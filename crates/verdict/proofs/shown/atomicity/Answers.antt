@@ -1,19 +1,18 @@
--- `shown::atomicity` meets its contract: the first broken pair, or none is.
-use Rattle.models.specs.Rules.{failures}
-use Rattle.models.proofs.FirstLaws.{at}
-use Rattle.verdict.proofs.ShownLaws.{pair_none, pair_bounds, pair_same, next_rule, tried_none, tried_4}
+use Rattle.std.proofs.Common.{rules, ◌≡◌, [], ◌∷◌, ◌<◌, ◌≤◌, length, ℕ, ◌+◌, ◌-◌, ◌*◌, ◌/◌, ◌%◌, Bool, true, false, nat_eq, nat_lt, List, ◌++◌, slice_index_or, slice_set, bit_and, bit_or, Fits, w8, w32, w64, Bor, MutBor}
+use Rattle.relation.specs.Rel.{Rel, diagonal, nodes}
+use Rattle.relation.specs.Bits.{bit, edge}
+use Rattle.relation.specs.Ring.{RingOrNone}
+use Rattle.models.specs.Graph.{Base}
+use Rattle.models.specs.Term.{eval, frₑ, coₑ}
+use Rattle.models.specs.Rules.{Model}
+use Rattle.verdict.specs.Base.{base_of}
+use Rattle.verdict.specs.Shown.{Hold, Tried, Around, Shown}
 use Rattle.verdict.proofs.shown.atomicity.Goals as goal
 
-pub broken_pair-requires : goal.broken_pair-requires
-broken_pair-requires c = pair_bounds c.first_pair-broken.ensures c.if-broken-lt64.true
+-- src/shown.rt:83:9
+pub returns-in-Some : goal.returns-in-Some
+returns-in-Some c = ?
 
-pub returns-then-broken-lt64 : goal.returns-then-broken-lt64
-returns-then-broken-lt64 c =
-    λ M B s e hold p q r. let first = pair_same (c.broken_pairs-pairs.ensures B p q r) c.first_pair-broken.ensures in
-    tried_4 M B s e _ hold first c.if-broken-lt64.true c.broken_pair.ensures
-
+-- src/shown.rt:78:1
 pub returns : goal.returns
-unfolding failures at
-returns c =
-    λ M B s e hold p q r. let first = pair_same (c.broken_pairs-pairs.ensures B p q r) c.first_pair-broken.ensures in
-    tried_none M B s e _ 4 c.unbroken.ensures (next_rule M B 3 hold (pair_none first c.if-broken-lt64.false))
+returns c = ?

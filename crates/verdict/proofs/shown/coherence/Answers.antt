@@ -1,17 +1,18 @@
--- `shown::coherence` meets its contract: a ring where an event is forbidden, else none is.
-use Rattle.models.specs.Rules.{failures}
-use Rattle.models.proofs.FirstLaws.{at}
-use Rattle.verdict.proofs.ShownLaws.{event_found, event_none, ring_same, next_rule, tried_none, tried_3}
+use Rattle.std.proofs.Common.{rules, ◌≡◌, [], ◌∷◌, ◌<◌, ◌≤◌, length, ℕ, ◌+◌, ◌-◌, ◌*◌, ◌/◌, ◌%◌, Bool, true, false, nat_eq, nat_lt, List, ◌++◌, slice_index_or, slice_set, bit_and, bit_or, Fits, w8, w32, w64, Bor, MutBor}
+use Rattle.relation.specs.Rel.{Rel, diagonal, nodes}
+use Rattle.relation.specs.Bits.{bit, edge}
+use Rattle.relation.specs.Ring.{RingOrNone}
+use Rattle.models.specs.Graph.{Base}
+use Rattle.models.specs.Term.{eval, frₑ, coₑ}
+use Rattle.models.specs.Rules.{Model}
+use Rattle.verdict.specs.Base.{base_of}
+use Rattle.verdict.specs.Shown.{Hold, Tried, Around, Shown}
 use Rattle.verdict.proofs.shown.coherence.Goals as goal
 
-pub returns-then-first-lt64 : goal.returns-then-first-lt64
-returns-then-first-lt64 c =
-    λ M B s e hold is p q around. let found = c.broken_ring.ensures in
-    tried_3 M B s e _ hold (event_found c.first.ensures is c.if-first-lt64.true) around found.answer found.bounded
-    (ring_same p q found.ring)
+-- src/shown.rt:72:9
+pub returns-then-is_empty : goal.returns-then-is_empty
+returns-then-is_empty c = ?
 
+-- src/shown.rt:67:1
 pub returns : goal.returns
-unfolding failures at
-returns c =
-    λ M B s e hold is p q around.
-    tried_none M B s e _ 3 c.unbroken.ensures (next_rule M B 2 hold (event_none c.first.ensures is c.if-first-lt64.false))
+returns c = ?

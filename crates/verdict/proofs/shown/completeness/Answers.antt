@@ -1,30 +1,26 @@
--- `shown::completeness` meets its contract: what the searches for rules 1 and 2 find or do not find.
--- The base that the arguments hold, and the way back to them.
-use mathlib.Core.Path.{refl, ap, ◌∙◌}
-use Rattle.relation.specs.Rel.{least}
-use Rattle.models.specs.Rules.{first, failures}
-use Rattle.models.proofs.FirstLaws.{at}
+use Rattle.std.proofs.Common.{rules, ◌≡◌, [], ◌∷◌, ◌<◌, ◌≤◌, length, ℕ, ◌+◌, ◌-◌, ◌*◌, ◌/◌, ◌%◌, Bool, true, false, nat_eq, nat_lt, List, ◌++◌, slice_index_or, slice_set, bit_and, bit_or, Fits, w8, w32, w64, Bor, MutBor}
+use Rattle.relation.specs.Rel.{Rel, diagonal, nodes}
+use Rattle.relation.specs.Bits.{bit, edge}
+use Rattle.relation.specs.Ring.{RingOrNone}
+use Rattle.models.specs.Graph.{Base}
+use Rattle.models.specs.Term.{eval, frₑ, coₑ}
+use Rattle.models.specs.Rules.{Model}
 use Rattle.verdict.specs.Base.{base_of}
-use Rattle.verdict.proofs.ShownLaws.{event_found, event_none, pair_none, pair_bounds, next_rule, tried_none, tried_1, tried_2}
+use Rattle.verdict.specs.Shown.{Hold, Tried, Around, Shown}
 use Rattle.verdict.proofs.shown.completeness.Goals as goal
 
-pub returns-then-read-lt64 : goal.returns-then-read-lt64
-unfolding base_of
-returns-then-read-lt64 c =
-    λ M s e. tried_1 M _ s e _ (event_found c.first-read.ensures (c.unread.ensures (base_of c.args.sets c.args.relations) refl refl) c.if-read-lt64.true)
-    (c.first-read.ensures ∙ ap (least 64) (c.unread.ensures (base_of c.args.sets c.args.relations) refl refl)) c.broken_event.ensures
+-- src/shown.rt:58:20
+pub broken_event-requires : goal.broken_event-requires
+broken_event-requires c = ?
 
-pub broken_pair-requires : goal.broken_pair-requires
-unfolding base_of
-broken_pair-requires c = pair_bounds (c.unordered-writes.ensures (base_of c.args.sets c.args.relations) refl refl refl) c.if-writes-lt64.true
+-- src/shown.rt:58:9
+pub returns-in-Some : goal.returns-in-Some
+returns-in-Some c = ?
 
-pub returns-then-writes-lt64 : goal.returns-then-writes-lt64
-unfolding failures at first base_of
-returns-then-writes-lt64 c =
-    λ M s e. tried_2 M _ s e _ (next_rule M _ 0 refl (event_none c.first-read.ensures (c.unread.ensures (base_of c.args.sets c.args.relations) refl refl) c.if-read-lt64.false)) (c.unordered-writes.ensures (base_of c.args.sets c.args.relations) refl refl refl)
-    c.if-writes-lt64.true c.broken_pair.ensures
+-- src/shown.rt:61:9
+pub returns-in-Some-unordered : goal.returns-in-Some-unordered
+returns-in-Some-unordered c = ?
 
+-- src/shown.rt:54:1
 pub returns : goal.returns
-unfolding failures at first base_of
-returns c =
-    λ M s e. tried_none M _ s e _ 2 c.unbroken.ensures (next_rule M _ 1 (next_rule M _ 0 refl (event_none c.first-read.ensures (c.unread.ensures (base_of c.args.sets c.args.relations) refl refl) c.if-read-lt64.false)) (pair_none (c.unordered-writes.ensures (base_of c.args.sets c.args.relations) refl refl refl) c.if-writes-lt64.false))
+returns c = ?

@@ -1,9 +1,0 @@
--- `order::full` meets its contract: its definition, call by call.
-use Rattle.models.specs.Term.{eval}
-use Rattle.models.specs.Tso.{full}
-use Rattle.verdict.proofs.TermLaws.{holds, terms}
-use Rattle.tso.proofs.order.full.Goals as goal
-
-pub returns : goal.returns
-unfolding eval
-returns c = λ B e s m. holds B full (search terms depth 9)
