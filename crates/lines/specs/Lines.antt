@@ -1,8 +1,6 @@
 -- The lines that the judge prints (01, "What is shown"; 02, slip 6), as bytes in ASCII.
-use Rattle.std.specs.Prelude.{List, [], ◌∷◌, ◌++◌, map, ℕ}
+use Rattle.std.specs.Prelude.{List, [], ◌∷◌, ◌++◌, map, ℕ, zero, suc}
 use Rattle.decimal.specs.Decimal.{decimal}
-use Rattle.verdict.specs.declared.Answer.{Answer}
-use Rattle.verdict.specs.declared.Answer.TheVariants.{Refused, Allowed, Broken}
 use Rattle.lines.specs.declared.Model.{Model}
 use Rattle.lines.specs.declared.Model.TheVariants.{Source, Chip, Tso}
 
@@ -41,12 +39,15 @@ abbrev pub parted : List (List ℕ) → List ℕ
 parted [] = []
 parted (w ∷ l) = w ++ spaced l
 
--- "the model, `allowed` or `broken` and the rule, then the events, in decimal"; "A refusal prints `refused` and its number the same way."
-abbrev pub fields : List ℕ → Answer → List ℕ → List (List ℕ)
-fields word (Refused k) events = refused ∷ decimal k ∷ []
-fields word Allowed events = word ∷ allowed ∷ map decimal events
-fields word (Broken k) events = word ∷ broken ∷ map decimal (k ∷ events)
-
 -- "ended by a line feed (byte 10)"
-unfoldable pub line_of : List ℕ → Answer → List ℕ → List ℕ
-line_of word a events = parted (fields word a events) ++ (10 ∷ [])
+abbrev pub ended : List (List ℕ) → List ℕ
+ended fields = parted fields ++ (10 ∷ [])
+
+-- "the model, `allowed` or `broken` and the rule, then the events, in decimal": the rule is 0 where none is broken.
+unfoldable pub line_of : List ℕ → ℕ → List ℕ → List ℕ
+line_of word zero events = ended (word ∷ allowed ∷ map decimal events)
+line_of word (suc k) events = ended (word ∷ broken ∷ map decimal (suc k ∷ events))
+
+-- "A refusal prints `refused` and its number the same way."
+unfoldable pub refusal_line : ℕ → List ℕ
+refusal_line k = ended (refused ∷ decimal k ∷ [])

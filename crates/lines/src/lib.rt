@@ -1,139 +1,118 @@
-// The lines that the judge prints, as bytes: a line is made in a text.
-// The line is that of specs/Lines.antt; nothing is assumed of a verdict but that it shows at most 64 events.
+// The lines that the judge prints, as bytes, each made in a text.
 
 #![tactic(auto)]
 
-ghost use Rattle.std.specs.Prelude.{◌≡◌, [], ◌∷◌, map, ◌+◌, ◌*◌, ◌≤◌, length, take};
+ghost use Rattle.std.specs.Prelude.{◌≡◌, ◌∷◌, ◌++◌, map, ◌+◌, ◌*◌, ◌≤◌, length};
+ghost use Rattle.arrayvec.specs.ArrayVec.{array_vec_len};
 ghost use Rattle.decimal.specs.Decimal.{decimal};
-ghost use Rattle.lines.specs.Lines.{model_word, spaced, line_of};
-ghost use Rattle.lines.specs.Put.{bytes, Room, Put};
+ghost use Rattle.verdict.specs.Verdict.{rule_of, events};
+ghost use Rattle.lines.specs.Lines.{model_word, spaced, line_of, refusal_line};
 
-use verdict::{Answer, Verdict};
+use arrayvec::ArrayVec;
+use verdict::Verdict;
 
 // The model that a line is of: IMM or x86-TSO on a source recording, ARMv8 on a chip recording.
-#[derive(Clone, Copy)]
+#[derive(Clone, Copy, Debug, PartialEq, Eq, Hash)]
 pub enum Model {
     Source,
     Chip,
     Tso,
 }
 
-// Bytes: the first len of at.
-#[derive(Clone, Copy)]
-pub struct Text {
-    pub at: [u8; 320],
-    pub len: usize,
+// A line, of at most 320 bytes.
+pub type Text = ArrayVec<u8, 320>;
+
+// Adds the bytes of a word.
+pub fn put_word(text: &mut Text, word: &[u8])
+    requires { array_vec_len text.old + length word.now ≤ 320 }
+    ensures { text.new.items ≡ text.old.items ++ word.now }
+{
+    text.try_extend_from_slice(word).unwrap();
 }
 
-// No bytes.
-fn empty() -> Text
-    ensures { result.len ≡ 0 }
+// Adds n in decimal.
+fn put_decimal(text: &mut Text, n: u8)
+    requires { array_vec_len text.old + 3 ≤ 320 }
+    ensures { text.new.items ≡ text.old.items ++ decimal n }
 {
-    Text {
-        at: [0u8; 320],
-        len: 0,
+    if n >= 100 {
+        text.push(b'0' + n / 100);
     }
-}
-
-// t and then the byte b.
-pub fn put(t: Text, b: u8) -> Text
-    requires { Room t 1 }
-    ensures { Put t (b ∷ []) result }
-{
-    let mut at = t.at;
-    let n = t.len;
-    at[n] = b;
-    Text { at, len: n + 1 }
-}
-
-// t and then the bytes of w.
-fn put_word(t: Text, w: &[u8]) -> Text
-    requires { Room t (length w.now) }
-    ensures { Put t w.now result }
-{
-    let mut r = t;
-    let mut k = 0;
-    while k < w.len() {
-        let z = put(r, w[k]);
-        r = z;
-        k += 1;
+    if n >= 10 {
+        text.push(b'0' + n / 10 % 10);
     }
-    r
+    text.push(b'0' + n % 10);
 }
 
-// t and then n in decimal.
-fn put_decimal(t: Text, n: u8) -> Text
-    requires { Room t 3 }
-    ensures { Put t (decimal n) result }
+// Adds a space and n in decimal, at most four bytes.
+pub fn put_number(text: &mut Text, n: u8)
+    requires { array_vec_len text.old + 4 ≤ 320 }
+    ensures put { text.new.items ≡ text.old.items ++ 32 ∷ decimal n }
+    ensures short { array_vec_len text.new ≤ array_vec_len text.old + 4 }
 {
-    if n < 10 {
-        return put(t, 48 + n);
-    }
-    if n < 100 {
-        return put(put(t, 48 + n / 10), 48 + n % 10);
-    }
-    put(put(put(t, 48 + n / 100), 48 + n / 10 % 10), 48 + n % 10)
+    text.push(b' ');
+    put_decimal(text, n);
 }
 
-// t and then a space and n in decimal, at most four bytes.
-pub fn put_number(t: Text, n: u8) -> Text
-    requires { Room t 4 }
-    ensures put { Put t (32 ∷ decimal n) result }
-    ensures short { result.len ≤ t.len + 4 }
+// Adds numbers in decimal, each with a space before it.
+fn put_numbers(text: &mut Text, numbers: &[u8])
+    requires { array_vec_len text.old + 4 * length numbers.now ≤ 320 }
+    ensures put { text.new.items ≡ text.old.items ++ spaced (map decimal numbers.now) }
+    ensures short { array_vec_len text.new ≤ array_vec_len text.old + 4 * length numbers.now }
 {
-    put_decimal(put(t, b' '), n)
-}
-
-// t and then the first len of at in decimal, each with a space before it.
-fn put_events(t: Text, at: [u8; 64], len: usize) -> Text
-    requires { (len ≤ 64) × Room t (4 * len) }
-    ensures put { Put t (spaced (map decimal (take len at))) result }
-    ensures short { result.len ≤ t.len + 4 * len }
-{
-    let mut r = t;
-    let mut i: usize = 0;
-    while i < len {
-        let z = put_number(r, at[i]);
-        r = z;
-        i += 1;
+    for n in numbers {
+        put_number(text, *n);
     }
-    r
 }
 
 // The model's word.
-pub fn word(model: Model) -> Text
-    ensures word { bytes result ≡ model_word model }
-    ensures short { result.len ≤ 6 }
+pub fn word(model: Model) -> &'static [u8]
+    ensures { result.now ≡ model_word model }
 {
-    let t = empty();
     match model {
-        Model::Source => put_word(t, b"source"),
-        Model::Chip => put_word(t, b"chip"),
-        Model::Tso => put_word(t, b"tso"),
+        Model::Source => b"source",
+        Model::Chip => b"chip",
+        Model::Tso => b"tso",
     }
 }
 
 // The line of a model's verdict.
-pub fn line(model: Model, v: Verdict) -> Text
-    requires { v.len ≤ 64 }
-    ensures line { bytes result ≡ line_of (model_word model) v.answer (take v.len v.at) }
-    ensures bounded { result.len ≤ 320 }
+pub fn line(model: Model, verdict: &Verdict) -> Text
+    ensures { result.items ≡ line_of (model_word model) (rule_of verdict.now) (events verdict.now) }
 {
-    let answer = v.answer;
-    let at = v.at;
-    let n = v.len;
-    match answer {
-        Answer::Refused(k) => {
-            let t = put_word(empty(), b"refused");
-            put(put_number(t, k), b'\n')
+    let mut text = Text::new();
+    put_word(&mut text, word(model));
+    match verdict {
+        Ok(events) => {
+            put_word(&mut text, b" allowed");
+            put_numbers(&mut text, events.as_slice());
         }
-        Answer::Allowed => {
-            let t = put_word(word(model), b" allowed");
-            put(put_events(t, at, n), b'\n')
-        }
-        Answer::Broken(k) => {
-            let t = put_number(put_word(word(model), b" broken"), k);
-            put(put_events(t, at, n), b'\n')
+        Err(broken) => {
+            put_word(&mut text, b" broken");
+            put_number(&mut text, broken.rule.number());
+            put_numbers(&mut text, broken.events.as_slice());
         }
     }
+    text.push(b'\n');
+    text
+}
+
+// The line of a refusal by its number.
+pub fn refused(number: u8) -> Text
+    ensures { result.items ≡ refusal_line number }
+{
+    let mut text = Text::new();
+    put_word(&mut text, b"refused");
+    put_number(&mut text, number);
+    text.push(b'\n');
+    text
+}
+
+// Adds a line to lines.
+pub fn add<const N: usize>(lines: &mut ArrayVec<u8, N>, line: &Text)
+    requires { array_vec_len lines.old + 320 ≤ N }
+    ensures added { lines.new.items ≡ lines.old.items ++ line.now.items }
+    ensures short { array_vec_len lines.new ≤ array_vec_len lines.old + 320 }
+{
+    lines.try_extend_from_slice(line.as_slice()).unwrap();
 }

@@ -3,7 +3,7 @@ use Rattle.models.specs.Graph.{Base}
 use Rattle.models.specs.Rules as models
 use Rattle.models.specs.Why.{Clauses, imm_rings, armv8_rings, tso_rings}
 use Rattle.layout.specs.Layout.{Side, source, chip}
-use Rattle.verdict.specs.declared.Verdict.{Verdict}
+use Rattle.verdict.specs.Verdict.{Verdict}
 use Rattle.imm.specs.Judged as imm
 use Rattle.armv8.specs.Judged as armv8
 use Rattle.tso.specs.Judged as tso

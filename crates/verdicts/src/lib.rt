@@ -2,108 +2,81 @@
 
 #![tactic(auto)]
 
-ghost use Rattle.std.specs.Prelude.{◌≡◌, List, ℕ, length, take};
-ghost use Rattle.models.specs.Armv8.{sc_per_loc_clauses};
+ghost use Rattle.std.specs.Prelude.{◌≡◌};
 ghost use Rattle.models.specs.Why.{clauses_of};
 ghost use Rattle.layout.specs.Decode.{decode};
 ghost use Rattle.recording.specs.Load.{LoadsAs, cause_for};
+ghost use Rattle.refusal.specs.Refusal.{number_of};
 ghost use Rattle.verdict.specs.Base.{base_of};
-ghost use Rattle.verdict.specs.Answer.{rule_of};
-ghost use Rattle.clause.specs.Steps.{ring, Held, Explained};
+ghost use Rattle.verdict.specs.Verdict.{rule_of};
+ghost use Rattle.clause.specs.Steps.{ring, StepsBy, Explained};
 ghost use Rattle.execution.specs.OnFile.{OnRecording, OnFile};
 ghost use Rattle.verdicts.specs.ByModel.{side_for, model_for, clauses_for, JudgedFor};
 
-use clause::{Clauses, Steps};
+use clause::Steps;
 use layout::kind;
 use lines::Model;
 use recording::causes;
-use verdict::base::{Relations, Sets};
-use verdict::{Verdict, base, rules};
+use refusal::Refusal;
+use verdict::base::Base;
+use verdict::{Broken, Rule, Verdict};
 
 // The side of the files that a model judges.
 fn side(model: Model) -> bool
     ensures { result ≡ side_for model }
 {
     match model {
-        Model::Source => kind::SOURCE,
+        Model::Source | Model::Tso => kind::SOURCE,
         Model::Chip => kind::CHIP,
-        Model::Tso => kind::SOURCE,
     }
 }
 
-// The number that a call meant for the files of a model gives, or 0 where the file loads and is of the model's side.
-pub fn cause(model: Model, file: &[u8]) -> u8
-    ensures { result ≡ cause_for (side_for model) file.now }
+// Whether a file loads and is of the model's side: refused as loading does, and with 11 where it is of the other side.
+pub fn loads_as(model: Model, file: &[u8]) -> Result<(), Refusal>
+    ensures { number_of result ≡ cause_for (side_for model) file.now }
 {
-    causes::cause(file, side(model))
+    causes::loads_as(file, side(model))
 }
 
 // The verdict over the base of an execution graph, and what is shown of it.
-fn judge(model: Model, sets: Sets, relations: Relations) -> Verdict
-    ensures { JudgedFor model (base_of sets relations) result }
+fn judge(model: Model, base: &Base) -> Verdict
+    ensures { JudgedFor model (base_of base.now) result }
 {
     match model {
-        Model::Source => imm::judge(sets, relations),
-        Model::Chip => armv8::judge(sets, relations),
-        Model::Tso => tso::judge(sets, relations),
+        Model::Source => imm::judge(base),
+        Model::Chip => armv8::judge(base),
+        Model::Tso => tso::judge(base),
     }
 }
 
-// The clauses of SC-per-location.
-fn per_location(relations: Relations) -> Clauses
-    ensures { (sets : List (List ℕ)) → Held 14 sc_per_loc_clauses (base_of sets relations) result }
-{
-    let rf = relations[base::RF];
-    let co = relations[base::CO];
-    let fr = rules::fr(rf, co);
-    clause::per_location(relations[base::PO], relations[base::LOC], rf, fr, co)
-}
-
-// The clauses of rule 3.
-fn coherence(model: Model, sets: Sets, relations: Relations) -> Clauses
-    ensures { Held 14 (clauses_for model).rule3 (base_of sets relations) result }
+// The steps of the ring of a broken rule 3.
+fn coherence_steps(model: Model, base: &Base, verdict: &Verdict) -> Steps
+    ensures { StepsBy (clauses_for model).rule3 (base_of base.now) verdict.now result.items }
 {
     match model {
-        Model::Source => imm::why::coherence(sets, relations),
-        Model::Chip => per_location(relations),
-        Model::Tso => per_location(relations),
+        Model::Source => clause::explained(verdict, &imm::why::coherence(base)),
+        Model::Chip | Model::Tso => clause::explained(verdict, &clause::per_location(base)),
     }
 }
 
-// The clauses of rule 5.
-fn order(model: Model, sets: Sets, relations: Relations) -> Clauses
-    ensures { Held 14 (clauses_for model).rule5 (base_of sets relations) result }
+// The steps of the ring of a broken rule 5.
+fn order_steps(model: Model, base: &Base, verdict: &Verdict) -> Steps
+    ensures { StepsBy (clauses_for model).rule5 (base_of base.now) verdict.now result.items }
 {
     match model {
-        Model::Source => imm::why::order(sets, relations),
-        Model::Chip => armv8::why::order(sets, relations),
-        Model::Tso => tso::why::order(sets, relations),
+        Model::Source => clause::explained(verdict, &imm::why::order(base)),
+        Model::Chip => clause::explained(verdict, &armv8::why::order(base)),
+        Model::Tso => clause::explained(verdict, &tso::why::order(base)),
     }
-}
-
-// The clauses of a rule by its number.
-fn clauses(model: Model, sets: Sets, relations: Relations, rule: u8) -> Clauses
-    ensures { Held 14 (clauses_of (clauses_for model) rule) (base_of sets relations) result }
-{
-    if rule == 3 {
-        return coherence(model, sets, relations);
-    }
-    if rule == 5 {
-        return order(model, sets, relations);
-    }
-    clause::none()
 }
 
 // The verdict on a recording of the model's side, and what is shown of it: refused with 1 to 10 or 13 as loading does, with 11 where it is of
 // the other side.
-pub fn verdict(model: Model, file: &[u8]) -> Verdict
+pub fn verdict(model: Model, file: &[u8]) -> Result<Verdict, Refusal>
     ensures { OnFile (side_for model) (model_for model) (JudgedFor model) file.now result }
 {
-    let k = cause(model, file);
-    if k != 0 {
-        return verdict::refused(k);
-    }
-    loaded(model, file)
+    loads_as(model, file)?;
+    Ok(loaded(model, file))
 }
 
 // The verdict on a recording of the model's side that loads, and what is shown of it.
@@ -111,22 +84,23 @@ pub fn loaded(model: Model, file: &[u8]) -> Verdict
     requires { LoadsAs (side_for model) file.now }
     ensures { OnRecording (model_for model) (JudgedFor model) (decode file.now) result }
 {
-    judge(model, execution::sets(file), execution::relations(file))
+    judge(model, &execution::base(file))
 }
 
 // The steps of the ring that the verdict on a recording of the model's side shows, each with the number of its clause.
 // A call of its own, so that its arrays of grids stand on no stack while the verdict is found.
 #[inline(never)]
-pub fn explained(model: Model, file: &[u8], v: Verdict) -> Steps
-    requires { LoadsAs (side_for model) file.now × OnRecording (model_for model) (JudgedFor model) (decode file.now) v }
-    ensures { Explained (clauses_of (clauses_for model) (rule_of v.answer)) (decode file.now) (ring v) (take (length (ring v)) result) }
+pub fn explained(model: Model, file: &[u8], verdict: &Verdict) -> Steps
+    requires { LoadsAs (side_for model) file.now × OnRecording (model_for model) (JudgedFor model) (decode file.now) verdict.now }
+    ensures { Explained (clauses_of (clauses_for model) (rule_of verdict.now)) (decode file.now) (ring verdict.now) result.items }
 {
-    let answer = v.answer;
-    let c = clauses(
-        model,
-        execution::sets(file),
-        execution::relations(file),
-        clause::rule(answer),
-    );
-    clause::explained(v, c)
+    let Err(Broken { rule, .. }) = verdict else {
+        return Steps::new();
+    };
+    let base = execution::base(file);
+    match rule {
+        Rule::Coherence => coherence_steps(model, &base, verdict),
+        Rule::Acyclicity => order_steps(model, &base, verdict),
+        _ => Steps::new(),
+    }
 }
