@@ -1,7 +1,7 @@
 -- Laws of grids: grids made row by row, and what each operator is outside a grid.
 use mathlib.Core.Path.{◌≡◌, refl, sym, ap, ap₂, subst, ◌∙◌, fun_ext}
 use mathlib.Core.List.{List, [], ◌∷◌}
-use mathlib.Core.Bool.{Bool, true, false, ◌&&◌, ◌||◌, or-false, or-true, and-false, and-true, or_comm}
+use mathlib.Core.Bool.{Bool, true, false, not, ◌&&◌, ◌||◌, or-false, or-true, and-false, and-true, or_comm}
 use Prim.Native.Nat.{ℕ, zero, suc, ◌+◌, ◌*◌, ◌<◌, ◌≤◌}
 use native.Mathlib.Numerals.{add-one}
 use native.Mathlib.Omega.{arith}
@@ -11,11 +11,12 @@ use borrow.Author.Tests.{eq-eqb, ne_eqb, lt-ltb, le-ltb}
 use lib.Dec.{eqb, ltb}
 use lib.ListN.{length, get_or, set, replicate, length-set, get_or-eq_default}
 use lib.Seq.{get_or-set_same, get_or-set_other}
-use Rattle.relation.specs.Rel.{Set, Rel, empty, none, single, given, pair, union, intersection, either, inverse, from, some, image, compose, through, plus, diagonal, below, nodes, least, Next}
+use Rattle.relation.specs.Rel.{Set, Rel, empty, none, single, given, pair, union, intersection, either, inverse, from, some, image, compose, through, plus, diagonal, below, nodes, members}
 use Rattle.relation.specs.Bits.{bit, edge}
 use Rattle.relation.proofs.ByteLaws.{bit_none, bit_out, on_zero}
-use Rattle.relation.proofs.Meaning.{some_least}
-use Rattle.relation.proofs.SetLaws.{Least, least_is, skip_to}
+use Rattle.relation.proofs.SetLaws.{skip_to}
+use Rattle.relation.proofs.SmallestLaws.{empty_nothing}
+use Rattle.relation.proofs.MemberLaws.{Left, First, left_all, left_next, left_none}
 
 -- A row that is not there holds nothing.
 pub bit_nil : bit [] ≡ empty
@@ -148,32 +149,27 @@ image_to : (s : Set) (r : Rel) (t : Set) (i k : ℕ) → t ≡ image (below i) s
     → t ≡ image (below k) s r
 image_to s r t i k p h f = skip_to s (λ n. t ≡ image (below n) s r) (λ n e q. image_keep n s r t q e) i k h f p
 
--- t is what r reaches from the members of s below i, where i is a member or 64.
-pub record Reached (s : Set) (r : Rel) (t : Set) (i : ℕ) : Type 0 where
-  pub high : i ≤ 64
-  pub holds : t ≡ image (below i) s r
-  pub member : i < 64 → s i ≡ true
+-- In a loop over the members of s, t is what r reaches from those that are not left.
+pub record Reached (s : Set) (r : Rel) (t : Set) (items : List ℕ) : Type 0 where
+  pub upto : ℕ
+  pub left : Left s upto items
+  pub holds : t ≡ image (below upto) s r
 
-module _ (s : Set) (r : Rel) (t : Set) (i : ℕ) where
-  pub reached_first : t ≡ empty → i ≡ least 64 s → Reached s r t i
-  reached_first p e =
-      let l : Least 64 s i = subst (Least 64 s) (sym e) (least_is 64 s) in
+pub reached_first : {s : Set} {r : Rel} {t : Set} {left : List ℕ} → t ≡ empty → left ≡ members s → Reached s r t left
+reached_first {s} {r} p e = record { upto = 0; left = subst (Left s 0) (sym e) (left_all s); holds = p ∙ image_none s r }
+
+module _ {s : Set} {r : Rel} {t : Set} {left : List ℕ} (w : Reached s r t left) where
+  pub reached_next : {u : Set} {m : ℕ} {more : List ℕ} → left ≡ m ∷ more → u ≡ union t (r m) → Reached s r u more
+  reached_next {u} {m} {more} e p =
+      let f : First s w.upto m more = left_next w.left e in
       record {
-        high = l.bound;
-        holds = image_to s r t 0 i (p ∙ image_none s r) (omega arith) (λ m g h. l.smaller m h);
-        member = l.member;
+        upto = m + 1;
+        left = f.left;
+        holds = p ∙ image_with m s r t (image_to s r t w.upto m w.holds f.next.low f.next.before) f.member;
       }
 
-  pub reached_next : Reached s r t i → i < 64 → (u : Set) (n : ℕ) → u ≡ union t (r i) → Next s (i + 1) n → Reached s r u n
-  reached_next w h u n p next =
-      record {
-        high = next.high;
-        holds = image_to s r u (i + 1) n (p ∙ image_with i s r t w.holds (w.member h)) next.low next.before;
-        member = next.member;
-      }
-
-  pub reached_all : Reached s r t i → 64 ≤ i → t ≡ image nodes s r
-  reached_all w h = w.holds ∙ ap (λ (k : ℕ). image (below k) s r) (omega (arith, w.high))
+  pub reached_all : left ≡ [] → t ≡ image nodes s r
+  reached_all e = let n = left_none w.left e in image_to s r t w.upto 64 w.holds n.low n.before
 
 bit_replicate : (n : ℕ) (row : List ℕ) → bit row ≡ empty → (i : ℕ) → bit (get_or (replicate n row) i []) ≡ empty
 bit_replicate zero row e i = bit_nil
@@ -209,11 +205,9 @@ unfolding union given through
 through_rows k r y p = ap (λ (s : Set). λ (m : ℕ). union (r m) (given (r m k) s)) p
 
 -- A row without events.
-pub none_in : (row : List ℕ) (n : ℕ) → n ≡ least 64 (bit row) → 64 ≤ n → bit row ≡ empty
+pub none_in : (row : List ℕ) → not (some nodes (bit row)) ≡ true → bit row ≡ empty
 unfolding empty
-none_in row n e h =
-    let l : Least 64 (bit row) n = subst (Least 64 (bit row)) (sym e) (least_is 64 (bit row)) in
-    fun_ext (λ j. elim (dec_lt j 64) [ yes p ↦ l.smaller j (omega arith) | no p ↦ bit_out row j (omega (arith, p)) ])
+none_in row e = fun_ext (λ j. elim (dec_lt j 64) [ yes p ↦ empty_nothing (bit row) e j p | no p ↦ bit_out row j (omega (arith, p)) ])
 
 pub through_none : (k : ℕ) (r : Rel) → r k ≡ empty → r ≡ through k r
 unfolding through empty
@@ -293,45 +287,46 @@ module _ (g : List (List ℕ)) (long : length g ≡ 64) where
       go a b (no p) q =
           other a b (ap (λ (x : Bool). x && eqb i b) (ne_eqb j a p)) (λ n e. p (omega (arith, n, h, e))) (dec_lt a 64) (dec_lt (64 * b + a) (64 * i + j))
 
--- In the turn of row i, whose row is x, the pairs before (i, j) are turned, where j is in x or is 64.
-pub record Turning (g : List (List ℕ)) (i : ℕ) (x : List ℕ) (h : List (List ℕ)) (j : ℕ) : Type 0 where
-  pub high : j ≤ 64
-  pub holds : edge h ≡ turned_below (edge g) (64 * i + j)
-  pub member : j < 64 → edge g i j ≡ true
-  pub row : bit x ≡ edge g i
+-- In the turn of row i, whose members are s, the pairs of the rows before and of its members that are not left are turned.
+pub record Turning (g : List (List ℕ)) (i : ℕ) (h : List (List ℕ)) (items : List ℕ) : Type 0 where
+  pub upto : ℕ
+  pub left : Left (edge g i) upto items
+  pub holds : edge h ≡ turned_below (edge g) (64 * i + upto)
   pub long : length h ≡ 64
   pub given : length g ≡ 64
 
-module _ {g : List (List ℕ)} {i : ℕ} {x : List ℕ} {h : List (List ℕ)} {j : ℕ} where
-  pub turning_first : length g ≡ 64 → length h ≡ 64 → edge h ≡ turned_below (edge g) (64 * i) → bit x ≡ edge g i → j ≡ least 64 (bit x) → Turning g i x h j
-  turning_first lg lh p row e =
-      let l : Least 64 (bit x) j = subst (Least 64 (bit x)) (sym e) (least_is 64 (bit x)) in
+pub turning_first : {g : List (List ℕ)} {i : ℕ} {h : List (List ℕ)} {left : List ℕ} → length g ≡ 64 → length h ≡ 64
+    → edge h ≡ turned_below (edge g) (64 * i) → left ≡ members (edge g i) → Turning g i h left
+turning_first {g} {i} {h} lg lh p e =
+    record {
+      upto = 0;
+      left = subst (Left (edge g i) 0) (sym e) (left_all (edge g i));
+      holds = p ∙ ap (turned_below (edge g)) {x = 64 * i} {y = 64 * i + 0} (omega arith);
+      long = lh;
+      given = lg;
+    }
+
+module _ {g : List (List ℕ)} {i : ℕ} {h : List (List ℕ)} {left : List ℕ} (w : Turning g i h left) where
+  pub turning_next : {j : ℕ} {more : List ℕ} → left ≡ j ∷ more → (v : List ℕ) → bit v ≡ union (bit (get_or h j [])) (single i)
+      → Turning g i (set h j v) more
+  turning_next {j} {more} e v p =
+      let f : First (edge g i) w.upto j more = left_next w.left e in
       record {
-        high = l.bound;
-        holds = p ∙ ap (turned_below (edge g)) {x = 64 * i} {y = 64 * i + 0} (omega arith)
-            ∙ turned_skip g lg i 0 j (omega arith) l.bound (λ a t u. ap (λ (s : Set). s a) (sym row) ∙ l.smaller a u);
-        member = λ k. ap (λ (s : Set). s j) (sym row) ∙ l.member k;
-        row = row;
-        long = lh;
-        given = lg;
+        upto = j + 1;
+        left = f.left;
+        holds = edge_with h j i v w.long f.inside p
+            ∙ ap (λ (r : Rel). either r (pair j i)) (w.holds ∙ turned_skip g w.given i w.upto j f.next.low f.next.high f.next.before)
+            ∙ turned_with g w.given i j f.inside f.member
+            ∙ ap (turned_below (edge g)) {x = 64 * i + j + 1} {y = 64 * i + (j + 1)} (omega arith);
+        long = length-set h j v ∙ w.long;
+        given = w.given;
       }
 
-  module _ (w : Turning g i x h j) where
-    pub turning_next : j < 64 → (v : List ℕ) {n : ℕ} → bit v ≡ union (bit (get_or h j [])) (single i) → Next (bit x) (j + 1) n → Turning g i x (set h j v) n
-    turning_next k v {n} p next =
-        record {
-          high = next.high;
-          holds = edge_with h j i v w.long k p ∙ ap (λ (r : Rel). either r (pair j i)) w.holds ∙ turned_with g w.given i j k (w.member k)
-              ∙ ap (turned_below (edge g)) {x = 64 * i + j + 1} {y = 64 * i + (j + 1)} (omega arith)
-              ∙ turned_skip g w.given i (j + 1) n next.low next.high (λ a t u. ap (λ (s : Set). s a) (sym w.row) ∙ next.before a t u);
-          member = λ z. ap (λ (s : Set). s n) (sym w.row) ∙ next.member z;
-          row = w.row;
-          long = length-set h j v ∙ w.long;
-          given = w.given;
-        }
-
-    pub turning_all : 64 ≤ j → edge h ≡ turned_below (edge g) (64 * (i + 1))
-    turning_all k = w.holds ∙ ap (turned_below (edge g)) {x = 64 * i + j} {y = 64 * (i + 1)} (omega (arith, w.high))
+  pub turning_all : left ≡ [] → edge h ≡ turned_below (edge g) (64 * (i + 1))
+  turning_all e =
+      let n = left_none w.left e in
+      w.holds ∙ turned_skip g w.given i w.upto 64 n.low (omega arith) n.before
+      ∙ ap (turned_below (edge g)) {x = 64 * i + 64} {y = 64 * (i + 1)} (omega arith)
 
 -- The closure, round by round.
 pub plus_none : (r : Rel) → r ≡ plus (below 0) r
@@ -343,10 +338,14 @@ unfolding plus below
 plus_step k r t p = rw (add-one k) (ap (through k) p)
 
 -- The diagonal of a ; b⁻¹: the events whose rows of a and b share a member.
-pub returning_at : (a b : List (List ℕ)) (i k : ℕ) (m : Set) → m ≡ intersection (bit (get_or a i [])) (bit (get_or b i [])) → k ≡ least 64 m
-    → ltb k 64 ≡ diagonal (compose nodes (edge a) (inverse (edge b))) i
+pub returning_at : (a b : List (List ℕ)) (i : ℕ) (m : Set) (e f : Bool) → m ≡ intersection (bit (get_or a i [])) (bit (get_or b i [])) → e ≡ not (some nodes m)
+    → f ≡ not e → f ≡ diagonal (compose nodes (edge a) (inverse (edge b))) i
 unfolding diagonal compose image inverse edge intersection
-returning_at a b i k m p q = ap (λ (x : ℕ). ltb x 64) q ∙ some_least m ∙ ap (some nodes) p
+returning_at a b i m e f p q r = r ∙ ap not q ∙ not_not (some nodes m) ∙ ap (some nodes) p
+  where
+    not_not : (x : Bool) → not (not x) ≡ x
+    not_not true = refl
+    not_not false = refl
 
 pub returning_out : (a b : List (List ℕ)) → length a ≡ 64 → (i : ℕ) → 64 ≤ i → diagonal (compose nodes (edge a) (inverse (edge b))) i ≡ false
 unfolding diagonal compose empty

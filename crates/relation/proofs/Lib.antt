@@ -2,7 +2,10 @@
 pub mod Truth
 pub mod ByteLaws
 pub mod SetLaws
+pub mod SmallestLaws
+pub mod MemberLaws
 pub mod GridLaws
+pub mod MadeLaws
 pub mod Meaning
 pub mod Pigeonhole
 pub mod Walks

@@ -1,21 +1,22 @@
 -- Laws of the shown order: made event by event it is the definition, and without a ring every event comes out.
-use mathlib.Core.Path.{◌≡◌, refl, sym, ap, subst, ◌∙◌}
+use mathlib.Core.Path.{◌≡◌, refl, sym, ap, ap₂, subst, ◌∙◌}
 use mathlib.Core.List.{List, [], ◌∷◌, ◌++◌, append_assoc, append-nil}
 use mathlib.Core.Bool.{Bool, true, false, not, ◌&&◌, false≢true, and-false}
 use mathlib.Core.Logic.{inl, inr}
 use Prim.Native.Nat.{ℕ, zero, suc, ◌+◌, ◌-◌, ◌<◌, ◌≤◌}
-use native.Mathlib.Numerals.{add-one}
 use native.Mathlib.Omega.{arith}
 use native.Mathlib.Decide.{ℕ_discrete, dec_lt}
 use borrow.Author.Tests.{lt-ltb, le-ltb, eq-eqb, ne_eqb}
-use lib.ListN.{length, take, set, length-set}
-use lib.Seq.{take-suc-set}
-use Rattle.relation.specs.Rel.{Set, Rel, single, intersection, difference, inverse, image, least, count, plus, nodes}
+use lib.ListN.{length}
+use Rattle.std.specs.Prelude.{Some, None}
+use Rattle.std.proofs.lemmas.List.{length-append}
+use Rattle.relation.specs.Rel.{Set, Rel, single, intersection, difference, inverse, image, some, least, smallest, count, plus, nodes}
 use Rattle.relation.specs.Order.{ready, order, occurrences, EachOnce}
 use Rattle.relation.proofs.Truth.{is_false, by_test, and_left, and_right, and_both}
-use Rattle.relation.proofs.SetLaws.{Least, least_is, least_lt}
+use Rattle.relation.proofs.SetLaws.{least_is, least_lt}
+use Rattle.relation.proofs.SmallestLaws.{smallest_some, smallest_none, smallest_member, empty_some, empty_none}
 use Rattle.relation.proofs.GridLaws.{inverse_back}
-use Rattle.relation.proofs.Meaning.{Steps, one, steps_join, mem_below, below_mem, image_sound, image_complete, plus_complete}
+use Rattle.relation.proofs.Meaning.{Steps, one, steps_join, mem_below, below_mem, some_sound, some_complete, image_sound, image_complete, plus_complete}
 use Rattle.relation.proofs.Counting.{count_le, count_lt, without_other, without_self, count_without}
 use Rattle.relation.proofs.Pigeonhole.{Twice, pigeonhole}
 use Rattle.relation.proofs.Walks.{Inside}
@@ -42,65 +43,67 @@ pub not_ready : (b : Rel) (s : Set) (m : ℕ) → s m ≡ false → ready (inver
 unfolding ready difference
 not_ready b s m e = ap (λ (x : Bool). x && not (image nodes s (inverse b) m)) e
 
--- t is what is both before k and in s, and f its least member.
-module _ (b : Rel) (s : Set) (k : ℕ) (t : Set) (f : ℕ) (meet : t ≡ intersection (b k) s) (least_of : f ≡ least 64 t) where
-  meets : Least 64 (intersection (b k) s) f
-  meets = subst (λ (u : Set). Least 64 u f) meet (subst (Least 64 t) (sym least_of) (least_is 64 t))
-
-  preceded_by : f < 64 → image nodes s (inverse b) k ≡ true
+-- t is what is both before k and in s.
+module _ (b : Rel) (s : Set) (k : ℕ) (t : Set) (meet : t ≡ intersection (b k) s) where
+  preceded_by : some nodes t ≡ true → image nodes s (inverse b) k ≡ true
   unfolding intersection inverse
   preceded_by h =
-      let both = meets.member h in
-      image_complete nodes s (inverse b) f k (mem_below 64 f h) (and_right (b k f) (s f) both) (and_left (b k f) (s f) both)
+      let (f, m, both) = some_sound nodes t h in
+      let e : b k f && s f ≡ true = sym (ap (λ (u : Set). u f) meet) ∙ both in
+      image_complete nodes s (inverse b) f k m (and_right (b k f) (s f) e) (and_left (b k f) (s f) e)
 
-  unpreceded : 64 ≤ f → image nodes s (inverse b) k ≡ false
+  unpreceded : some nodes t ≡ false → image nodes s (inverse b) k ≡ false
   unfolding intersection inverse
   unpreceded h =
       is_false _
       (λ e. let (i, m, p, q) = image_sound nodes s (inverse b) k e in
-      false≢true (sym (meets.smaller i (omega (arith, below_mem 64 i m))) ∙ and_both (b k i) (s i) q p))
+      false≢true (sym h ∙ some_complete nodes t i m (ap (λ (u : Set). u i) meet ∙ and_both (b k i) (s i) q p)))
 
-  pub preceded_not_ready : (f ≡ 64 → ⊥) → ready (inverse b) s k ≡ false
+  pub preceded_not_ready : not (some nodes t) ≡ false → ready (inverse b) s k ≡ false
   unfolding ready difference
-  preceded_not_ready d = ap (λ (x : Bool). s k && not x) (preceded_by (omega (arith, d, meets.bound))) ∙ and-false (s k)
+  preceded_not_ready d = ap (λ (x : Bool). s k && not x) (preceded_by (empty_some t d)) ∙ and-false (s k)
 
-  pub unpreceded_ready : f ≡ 64 → s k ≡ true → ready (inverse b) s k ≡ true
+  pub unpreceded_ready : not (some nodes t) ≡ true → s k ≡ true → ready (inverse b) s k ≡ true
   unfolding ready difference
-  unpreceded_ready e p = and_both (s k) _ p (ap not (unpreceded (omega arith)))
+  unpreceded_ready e p = and_both (s k) _ p (ap not (unpreceded (empty_none t e)))
 
--- n events are out, and the order of those that are left follows them.
-pub record Out (r : Rel) (s : Set) (at : List ℕ) (n : ℕ) (left : Set) : Type 0 where
-  pub long : length at ≡ 64
-  pub rest : take n at ++ order (64 - n) r left ≡ order 64 r s
+-- These events are out, and the order of those that are left follows them.
+pub record Out (r : Rel) (s : Set) (out : List ℕ) (left : Set) : Type 0 where
+  pub room : length out + count 64 left ≤ 64
+  pub rest : out ++ order (64 - length out) r left ≡ order 64 r s
 
-pub out_none : (r : Rel) (s : Set) (at : List ℕ) → length at ≡ 64 → Out r s at 0 s
-out_none r s at l = record { long = l; rest = refl }
+pub out_none : (r : Rel) (s : Set) {out : List ℕ} → out ≡ [] → Out r s out s
+out_none r s {out} e =
+    subst (λ (l : List ℕ). Out r s l s) (sym e) (record { room = omega (arith, count_le 64 s); rest = refl })
 
-module _ (r : Rel) (s left : Set) (at : List ℕ) (n k : ℕ) (out : Out r s at n left) (lt : n < 64) (first : k ≡ least 64 (ready r left)) where
-  pub out_more : k < 64 → (z : Set) → z ≡ difference left (single k) → Out r s (set at n k) (n + 1) z
-  out_more h z e =
-      record {
-        long = length-set at n k ∙ out.long;
-        rest = rw (add-one n, take-suc-set at n k (omega (arith, out.long)), append_assoc)
-            (ap (λ (l : List ℕ). take n at ++ l) (step ∙ ap (λ (m : ℕ). order m r left) (omega arith)) ∙ out.rest);
-      }
-    where
-      step : k ∷ order (64 - suc n) r z ≡ order (suc (64 - suc n)) r left
-      step = ap (λ (f : Set). k ∷ order (64 - suc n) r f) e ∙ sym (order_next (64 - suc n) r left k first h)
+module _ {r : Rel} {s left : Set} {out : List ℕ} (w : Out r s out left) where
+  -- What one event more is.
+  pub out_next : {k : ℕ} → smallest (ready r left) ≡ Some k
+      → (k < 64) × (suc (count 64 (difference left (single k))) ≡ count 64 left)
+  unfolding ready difference
+  out_next {k} first =
+      let (e, h) = smallest_some (ready r left) k first in
+      (h, count_without 64 left k h (and_left _ _ (smallest_member (ready r left) k first)))
 
-  pub out_stop : 64 ≤ k → take n at ≡ order 64 r s
-  out_stop h =
-      sym (append-nil (take n at))
-      ∙ ap (λ (l : List ℕ). take n at ++ l) (sym (order_stop (64 - n) r left (rw first at h))) ∙ out.rest
+  pub out_more : {k : ℕ} → smallest (ready r left) ≡ Some k → (z : Set) → z ≡ difference left (single k) → {more : List ℕ} → more ≡ out ++ k ∷ [] → Out r s more z
+  out_more {k} first z e {more} by =
+      let (q, h) = smallest_some (ready r left) k first in
+      let (inside, fewer) = out_next first in
+      let n : ℕ = length out in
+      let long : length (out ++ k ∷ []) ≡ n + 1 = length-append out (k ∷ []) in
+      let kept : count 64 z ≡ count 64 (difference left (single k)) = ap (count 64) e in
+      let step : k ∷ order (64 - length (out ++ k ∷ [])) r z ≡ order (64 - n) r left =
+      ap₂ (λ (m : ℕ) (f : Set). k ∷ order m r f) {x = 64 - length (out ++ k ∷ [])} {y = 63 - n} (omega (arith, long)) e
+      ∙ sym (order_next (63 - n) r left k q h) ∙ ap (λ (m : ℕ). order m r left) {x = suc (63 - n)} {y = 64 - n} (omega (arith, w.room, fewer)) in
+      subst (λ (l : List ℕ). Out r s l z) (sym by)
+      (record {
+        room = omega (arith, long, kept, fewer, w.room);
+        rest = append_assoc out (k ∷ []) _ ∙ ap (λ (l : List ℕ). out ++ l) step ∙ w.rest;
+      })
 
-pub out_all : (r : Rel) (s left : Set) (at : List ℕ) (n : ℕ) → 64 ≤ n → Out r s at n left → take n at ≡ order 64 r s
-unfolding order
-out_all r s left at n h out =
-    sym (append-nil (take n at))
-    ∙ ap (λ (m : ℕ). take n at ++ order m r left) (sym (nothing_left h)) ∙ out.rest
-  where
-    nothing_left : 64 ≤ n → 64 - n ≡ 0
-    nothing_left q = omega arith
+  pub out_all : smallest (ready r left) ≡ None → out ≡ order 64 r s
+  out_all none =
+      sym (append-nil out) ∙ ap (λ (l : List ℕ). out ++ l) (sym (order_stop (64 - length out) r left (omega (arith, smallest_none (ready r left) none)))) ∙ w.rest
 
 -- Where every event of s has one of s before it, r has a ring.
 module _ (r : Rel) (s : Set) (within : Inside r) (none : 64 ≤ least 64 (ready r s)) where

@@ -1,6 +1,6 @@
 -- Laws of the ring routine: its parts together find a ring exactly where there is one.
 use mathlib.Core.Path.{◌≡◌, refl, sym, ap, ap₂, subst, ◌∙◌, fun_ext}
-use mathlib.Core.List.{List}
+use mathlib.Core.List.{List, [], ◌∷◌, ◌++◌, reverse, append-nil}
 use mathlib.Core.Bool.{Bool, true, false, ◌&&◌, false≢true}
 use mathlib.Core.Logic.{◌⊎◌, inl, inr}
 use Prim.Native.Nat.{ℕ, zero, suc, ◌+◌, ◌-◌, ◌<◌, ◌≤◌}
@@ -9,13 +9,17 @@ use native.Mathlib.Omega.{arith}
 use native.Mathlib.Decide.{ℕ_discrete, dec_lt}
 use borrow.Author.Count.{below_more}
 use borrow.Author.Tests.{lt-ltb, le-ltb}
-use lib.Dec.{eqb}
-use lib.ListN.{length, get_or, set, take, length-set, get_or-eq_default}
-use lib.Seq.{get_or-set_same, get_or-set_other, get_or-take, length-take-le}
-use Rattle.relation.specs.Rel.{Set, Rel, empty, single, union, intersection, inverse, identity, image, compose, plus, either, diagonal, least, nodes}
-use Rattle.relation.specs.Ring.{under, power, after, closed, Ring, RingOrNone, Shortest, Levels, StepsBack, Way, SmallestAt, Turned, turned_to}
+use lib.Dec.{eqb, ltb}
+use lib.ListN.{length, get_or, take, drop, get_or-eq_default, get_or-append, drop_of_length-le}
+use Rattle.std.specs.List.{refill}
+use lib.Seq.{take-length, get_or-take, get_or-append_seam, get_or-append_right, length-take-le}
+use Rattle.std.specs.Prelude.{Option, Some, None, IsSome}
+use Rattle.std.proofs.lemmas.List.{length-append, length-drop, length-reverse, get_or-drop, get_or-reverse}
+use Rattle.relation.specs.Rel.{Set, Rel, empty, single, union, intersection, inverse, identity, image, compose, plus, either, diagonal, least, smallest, nodes}
+use Rattle.relation.specs.Ring.{under, power, after, closed, Ring, RingOrNone, Shortest, NoneBelow, Levels, StepsBack, Way, SmallestAt, Turned}
 use Rattle.relation.proofs.Truth.{is_false, and_left, and_right, and_both, or_either}
 use Rattle.relation.proofs.SetLaws.{single_only, least_is, least_lt}
+use Rattle.relation.proofs.SmallestLaws.{smallest_below, smallest_some, smallest_member, smallest_nothing}
 use Rattle.relation.proofs.GridLaws.{inverse_back}
 use Rattle.relation.proofs.Meaning.{mem_below, below_mem, image_sound, compose_sound, compose_complete, plus_sound}
 use Rattle.relation.proofs.Walks.{Inside, Walk, stay, walk_join, walk_along, steps_walk, power_sound, power_complete, shorten, walk_zero}
@@ -46,67 +50,92 @@ picked s c r y k p e l =
     let q : s k && r k y ≡ true = sym (ap (λ (f : Set). f k) e) ∙ rw l ((least_is 64 c).member (omega arith)) in
     record { inside = below; member = and_left (s k) (r k y) q; leads = and_right (s k) (r k y) q }
 
--- Steps back: the events from k on are in place.
-pub record Back (h b : Rel) (n x k y : ℕ) (at : List ℕ) : Type 0 where
-  pub long : length at ≡ 64
+-- It is what the search for the smallest finds.
+module _ (s c : Set) (r : Rel) (y : ℕ) (reached : image nodes s r y ≡ true) (is : c ≡ intersection s (inverse r y)) where
+  pub picked_some : {o : Option ℕ} → o ≡ smallest c → IsSome o
+  picked_some e = subst IsSome (sym (e ∙ smallest_below c (picked s c r y (least 64 c) reached is refl).inside)) refl
+
+  pub picked_first : {o : Option ℕ} {k : ℕ} → o ≡ smallest c → o ≡ Some k → Picked s r y k
+  picked_first {o} {k} e p = picked s c r y k reached is (smallest_some c k (sym e ∙ p)).0
+
+-- Steps back from x at level n to y at level k: the events so far, the last first.
+pub record Back (h b : Rel) (n x k y : ℕ) (l : List ℕ) : Type 0 where
+  pub long : length l + k ≡ n + 1
   pub bound : k ≤ n
   pub inside : y < 64
-  pub end : get_or at n zero ≡ x
-  pub here : get_or at k zero ≡ y
-  pub level : (j : ℕ) → k ≤ j → j ≤ n → h j (get_or at j zero) ≡ true
-  pub step : (j : ℕ) → k ≤ j → j < n → b (get_or at (suc j) zero) (get_or at j zero) ≡ true
+  pub end : get_or l 0 zero ≡ x
+  pub here : get_or l (n - k) zero ≡ y
+  pub level : (j : ℕ) → k ≤ j → j ≤ n → h j (get_or l (n - j) zero) ≡ true
+  pub step : (j : ℕ) → k ≤ j → j < n → b (get_or l (n - suc j) zero) (get_or l (n - j) zero) ≡ true
 
-pub back_start : {h b : Rel} {n x : ℕ} (at : List ℕ) → length at ≡ 64 → n < 64 → x < 64 → h n x ≡ true → Back h b n x n x (set at n x)
-back_start {n = n} {x} at l hn hx p =
-    let same : get_or (set at n x) n zero ≡ x = get_or-set_same at n x zero (omega arith) in
-    record {
-      long = length-set at n x ∙ l;
+pub back_start : {h b : Rel} {n x : ℕ} {l : List ℕ} → l ≡ x ∷ [] → x < 64 → h n x ≡ true → Back h b n x n x l
+back_start {h} {b} {n} {x} {l} e hx p =
+    subst (Back h b n x n x) (sym e)
+    (record {
+      long = omega arith;
       bound = omega arith;
       inside = hx;
-      end = same;
-      here = same;
-      level = λ j a c. let q : j ≡ n = omega arith in rw (q, same) p;
+      end = refl;
+      here = at_last n (omega arith);
+      level = λ j a c. let q : j ≡ n = omega arith in rw (q, at_last n (omega arith)) p;
       step = λ j a c. absurd (omega arith);
-    }
+    })
+  where
+    at_last : (j : ℕ) → n ≤ j → get_or (x ∷ []) (n - j) zero ≡ x
+    at_last j h = ap (λ (i : ℕ). get_or (x ∷ []) i zero) {x = n - j} {y = 0} (omega arith)
 
 -- The event before y: the least of its row that leads to y.
-module _ {h b : Rel} {n x j y : ℕ} {at : List ℕ} (w : Back h b n x j y at) (hn : n < 64) {k z : ℕ} (e : j ≡ suc k) where
-  pub back_pick : Levels h b → {c : Set} → c ≡ intersection (h k) (b y) → z ≡ least 64 c → Picked (h k) (inverse b) y z
-  unfolding inverse
-  back_pick levels {c} p l =
+module _ {h b : Rel} {n x j y : ℕ} {l : List ℕ} (w : Back h b n x j y l) {k : ℕ} (e : j ≡ suc k) where
+  pub back_reached : n < 64 → Levels h b → image nodes (h k) (inverse b) y ≡ true
+  back_reached hn levels =
       let up : h (suc k) y ≡ true = subst (λ (i : ℕ). h i y ≡ true) e (rw w.here at (w.level j (omega arith) w.bound)) in
-      picked (h k) c (inverse b) y z (sym (ap (λ (f : Set). f y) (levels.leads k (omega (arith, w.bound)))) ∙ up) p l
+      sym (ap (λ (f : Set). f y) (levels.leads k (omega (arith, w.bound)))) ∙ up
 
-  pub back_more : Picked (h k) (inverse b) y z → Back h b n x k z (set at k z)
+  pub back_more : {z : ℕ} {m : List ℕ} → m ≡ l ++ z ∷ [] → Picked (h k) (inverse b) y z → Back h b n x k z m
   unfolding inverse
-  back_more p =
-      let same : get_or (set at k z) k zero ≡ z = get_or-set_same at k z zero (omega (arith, w.long, w.bound)) in
-      let kept : (j : ℕ) → suc k ≤ j → get_or (set at k z) j zero ≡ get_or at j zero
-      = λ j q. get_or-set_other at k j z zero (omega arith) in
+  back_more {z} {m} by p =
+      let last : get_or m (n - k) zero ≡ z =
+      ap (λ (i : List ℕ). get_or i (n - k) zero) by ∙ ap (λ (i : ℕ). get_or (l ++ z ∷ []) i zero) {x = n - k} {y = length l} (omega (arith, w.long))
+      ∙ get_or-append_seam l z [] zero in
+      let kept : (i : ℕ) → i < length l → get_or m i zero ≡ get_or l i zero
+      = λ i q. ap (λ (t : List ℕ). get_or t i zero) by ∙ get_or-append l (z ∷ []) zero i q in
       record {
-        long = length-set at k z ∙ w.long;
+        long = omega (arith, ap length by, length-append l (z ∷ []), w.long);
         bound = omega (arith, w.bound);
         inside = p.inside;
-        end = kept n (omega (arith, w.bound)) ∙ w.end;
-        here = same;
-        level = λ j a c. elim (ℕ_discrete j k) [
-          | yes q ↦ rw (q, same) p.member
-          | no d ↦ rw (kept j (omega (arith, d))) (w.level j (omega (arith, d)) c)
+        end = kept 0 (omega (arith, w.long, w.bound)) ∙ w.end;
+        here = last;
+        level = λ i a c. elim (ℕ_discrete i k) [
+          | yes q ↦ rw (q, last) p.member
+          | no d ↦ rw (kept (n - i) (omega (arith, d, w.long))) (w.level i (omega (arith, d)) c)
         ];
-        step = λ j a c. elim (ℕ_discrete j k) [
-          | yes q ↦ rw (q, same, kept (suc k) (omega arith), ap (λ (i : ℕ). get_or at i zero) (sym e), w.here) p.leads
-          | no d ↦ rw (kept j (omega (arith, d)), kept (suc j) (omega (arith, d))) (w.step j (omega (arith, d)) c)
+        step = λ i a c. elim (ℕ_discrete i k) [
+          | yes q ↦ rw (q, last, kept (n - suc k) (omega (arith, w.long)), ap (λ (t : ℕ). get_or l (n - t) zero) (sym e), w.here) p.leads
+          | no d ↦ rw (kept (n - i) (omega (arith, d, w.long)), kept (n - suc i) (omega (arith, d, w.long))) (w.step i (omega (arith, d)) c)
         ];
       }
 
-pub back_all : {h b : Rel} {n x k y : ℕ} {at : List ℕ} → Back h b n x k y at → k ≤ 0 → StepsBack h b n x at
-back_all w p =
-    record {
-      long = w.long;
-      end = w.end;
-      level = λ j c. w.level j (omega arith) c;
-      step = λ j c. w.step j (omega arith) c;
-    }
+-- A list written over a list as long.
+refilled : (n : ℕ) (xs ws : List ℕ) → n ≡ length xs → length ws ≡ length xs → refill n xs ws ≡ ws
+refilled n xs ws e l =
+    ap (λ (t : List ℕ). take n (ws ++ t)) (drop_of_length-le xs (omega (arith, l))) ∙ ap (take n) (append-nil ws)
+    ∙ ap (λ (m : ℕ). take m ws) {x = n} {y = length ws} (omega (arith, e, l)) ∙ take-length ws
+
+-- The other way round they are from the first to the last.
+pub back_all : {h b : Rel} {n x k y : ℕ} {l m : List ℕ} → Back h b n x k y l → k ≤ 0 → m ≡ reverse l → StepsBack h b n x (refill (length l) l m)
+back_all {h} {b} {n} {x} {k} {y} {l} {m} w p e =
+    subst (StepsBack h b n x) (sym (refilled (length l) l m refl (ap length e ∙ length-reverse l)))
+    (record {
+      long = ap length e ∙ length-reverse l ∙ omega (arith, w.long);
+      end = at n (omega arith) ∙ ap (λ (i : ℕ). get_or l i zero) {x = n - n} {y = 0} (omega arith) ∙ w.end;
+      level = λ j c. rw (at j c) (w.level j (omega arith) c);
+      step = λ j c. rw (at j (omega arith), at (suc j) (omega arith)) (w.step j (omega arith) c);
+    })
+  where
+    at : (j : ℕ) → j ≤ n → get_or m j zero ≡ get_or l (n - j) zero
+    at j h =
+        ap (λ (t : List ℕ). get_or t j zero) e ∙ get_or-reverse l j zero (omega (arith, w.long))
+        ∙ ap (λ (i : ℕ). get_or l i zero) {x = length l - 1 - j} {y = n - j} (omega (arith, w.long))
 
 -- The levels of g from s, with its inverse.
 pub levels_lead : (r h b : Rel) (s : ℕ) → ((k : ℕ) → k < 64 → h k ≡ power k r s) → b ≡ inverse r → Levels h b
@@ -117,11 +146,11 @@ levels_lead r h b s w p =
           ∙ ap₂ (λ (f : Set) (t : Rel). image nodes f (λ i j. t j i)) (sym (w k (omega arith))) (sym p);
     }
 
--- The last event of a way: the least that n steps reach and that e closes.
-pub closing_pick : (r : Rel) {e h : Rel} {s n x : ℕ} {c : Set} → n < 64 → ((k : ℕ) → k < 64 → h k ≡ power k r s)
-    → compose nodes (power n r) e s s ≡ true → c ≡ intersection (h n) (inverse e s) → x ≡ least 64 c → Picked (h n) e s x
+-- The last event of a way: one that n steps reach and that e closes.
+pub closing_reached : (r e : Rel) {h : Rel} (s : ℕ) {n : ℕ} → n < 64 → ((k : ℕ) → k < 64 → h k ≡ power k r s)
+    → compose nodes (power n r) e s s ≡ true → image nodes (h n) e s ≡ true
 unfolding compose
-closing_pick r {n = n} hn w p q l = picked _ _ _ _ _ (rw (w n hn) p) q l
+closing_reached r e s {n = n} hn w p = rw (w n hn) p
 
 pub way_of_steps : {r e h b : Rel} {s n x : ℕ} {at : List ℕ} → n < 64 → ((k : ℕ) → k < 64 → h k ≡ power k r s) → b ≡ inverse r
     → e x s ≡ true → StepsBack h b n x at → Way r e s n at
@@ -141,25 +170,25 @@ closes {r} {e} {n} ir ie c =
     (power_complete r ir n c.start c.end (ie.target c.end c.start c.close) c.walk) c.close
 
 -- No closed walk has fewer steps than the shortest, and no ring has fewer events than that has: one more than steps.
-pub no_shorter : (r e : Rel) → Inside r → Inside e → (n s m : ℕ) → Shortest r e n s → ClosedWalk r e m → n ≤ m
-no_shorter r e ir ie n s m w c =
+pub no_shorter : (r e : Rel) → Inside r → Inside e → (n m : ℕ) → NoneBelow n r e → ClosedWalk r e m → n ≤ m
+no_shorter r e ir ie n m w c =
     elim (dec_lt m n) [
       | no h ↦ omega (arith, h)
-      | yes h ↦ absurd (false≢true (sym (w.fewest m (omega arith) c.start) ∙ closes ir ie c))
+      | yes h ↦ absurd (false≢true (sym (w m (omega arith) c.start) ∙ closes ir ie c))
     ]
 
-no_shorter_ring : (r e : Rel) → Inside r → Inside e → (n s : ℕ) → Shortest r e n s → (l : List ℕ) → Ring r e l → n + 1 ≤ length l
-no_shorter_ring r e ir ie n s w l ring =
-    let round = no_shorter r e ir ie n s (length l - 1) w (ring_walk r e l ring (length l - 1) (omega (arith, ring.inside))) in
+no_shorter_ring : (r e : Rel) → Inside r → Inside e → (n : ℕ) → NoneBelow n r e → (l : List ℕ) → Ring r e l → n + 1 ≤ length l
+no_shorter_ring r e ir ie n w l ring =
+    let round = no_shorter r e ir ie n (length l - 1) w (ring_walk r e l ring (length l - 1) (omega (arith, ring.inside))) in
     omega (arith, ring.inside)
 
 -- Where 64 steps are not enough to come back, no number is.
-pub none_back : (r e : Rel) → Inside r → Inside e → (n s : ℕ) → 64 ≤ n → Shortest r e n s → (i : ℕ) → closed r e i i ≡ false
+pub none_back : (r e : Rel) → Inside r → Inside e → NoneBelow 64 r e → (i : ℕ) → closed r e i i ≡ false
 unfolding closed either union
-none_back r e ir ie n s h w i = is_false _ (λ p. elim (or_either (e i i) (compose nodes (plus nodes r) e i i) p) [ inl c ↦ direct c | inr c ↦ around c ])
+none_back r e ir ie w i = is_false _ (λ p. elim (or_either (e i i) (compose nodes (plus nodes r) e i i) p) [ inl c ↦ direct c | inr c ↦ around c ])
   where
     short : (m x : ℕ) → m < 64 → Walk r i m x → e x i ≡ true → ⊥
-    short m x hm a c = (let least = no_shorter r e ir ie n s m w (record { start = i; end = x; walk = a; close = c }) in omega arith)
+    short m x hm a c = (let least = no_shorter r e ir ie 64 m w (record { start = i; end = x; walk = a; close = c }) in omega arith)
 
     direct : e i i ≡ true → ⊥
     direct c = short zero i (omega arith) stay c
@@ -172,7 +201,7 @@ none_back r e ir ie n s h w i = is_false _ (λ p. elim (or_either (e i i) (compo
         short l x hl v c
 
 -- The events of a shortest way are distinct: what lies between two that are equal could be left out.
-module _ (r e : Rel) (ir : Inside r) (ie : Inside e) (s n : ℕ) (at : List ℕ) (shortest : Shortest r e n s) (lt : n < 64)
+module _ (r e : Rel) (ir : Inside r) (ie : Inside e) (s n : ℕ) (at : List ℕ) (fewest : NoneBelow n r e)
     (way : Way r e s n at) where
   part : (j d : ℕ) → j + d ≤ n → Walk r (get_or at j zero) d (get_or at (j + d) zero)
   part j d h = walk_along (λ k. get_or at k zero) j d (λ k p q. way.step k (omega arith))
@@ -184,18 +213,21 @@ module _ (r e : Rel) (ir : Inside r) (ie : Inside e) (s n : ℕ) (at : List ℕ)
       = subst (λ (k : ℕ). Walk r (get_or at j zero) (n - j) (get_or at k zero)) (omega arith) (part j (n - j) (omega arith)) in
       let whole : Walk r s (n - j + i) (get_or at n zero)
       = walk_join first (subst (λ (y : ℕ). Walk r y (n - j) (get_or at n zero)) (sym p) rest) in
-      let least = no_shorter r e ir ie n s (n - j + i) shortest (record { start = s; end = get_or at n zero; walk = whole; close = way.close }) in
+      let least = no_shorter r e ir ie n (n - j + i) fewest (record { start = s; end = get_or at n zero; walk = whole; close = way.close }) in
       omega arith
 
   way_start : s ≡ get_or at zero zero
   way_start = walk_zero (power_sound r zero s (get_or at zero zero) (way.level zero (omega arith)))
 
--- Turning.
-pub turned_low : (k m n : ℕ) → k + m < n → turned_to k m n ≡ k + m
+-- The index that comes to k when n places are rotated left by m.
+unfoldable turned_to : ℕ → ℕ → ℕ → ℕ
+turned_to k m n = elim (ltb (k + m) n) [ true ↦ k + m | false ↦ k + m - n ]
+
+turned_low : (k m n : ℕ) → k + m < n → turned_to k m n ≡ k + m
 unfolding turned_to
 turned_low k m n h = rw (lt-ltb (k + m) n h, turned_to)
 
-pub turned_high : (k m n : ℕ) → n ≤ k + m → turned_to k m n ≡ k + m - n
+turned_high : (k m n : ℕ) → n ≤ k + m → turned_to k m n ≡ k + m - n
 unfolding turned_to
 turned_high k m n h = rw (le-ltb (k + m) n h, turned_to)
 
@@ -211,9 +243,6 @@ place k m n hk hm =
       | no h ↦ let e : turned_to k m n ≡ k + m - n = turned_high k m n (omega (arith, h)) in
           record { inside = omega (arith, e); from = inr (omega (arith, e, h)) }
     ]
-
-pub turned_inside : (k m n : ℕ) → k < n → m < n → turned_to k m n < n
-turned_inside k m n h g = (place k m n h g).inside
 
 -- What follows of two places, case by case.
 by_cases : {A B C D : Type 0} {P : Type 0} → A ⊎ B → C ⊎ D → (A → C → P) → (A → D → P) → (B → C → P) → (B → D → P) → P
@@ -249,10 +278,27 @@ last_back p h e = elim p.from [ inl x ↦ omega arith | inr x ↦ absurd (omega 
 end_place : {k m n a : ℕ} → Place k m (n + 1) a → k < n + 1 → m ≤ n → a ≡ n → k ≡ n - m
 end_place p h g e = elim p.from [ inl x ↦ omega arith | inr x ↦ absurd (omega arith) ]
 
+-- Where each event of a list is after the rotation.
+turned_at : (l : List ℕ) (m k : ℕ) → m ≤ length l → k < length l → get_or (drop m l ++ take m l) k zero ≡ get_or l (turned_to k m (length l)) zero
+turned_at l m k hm hk =
+    elim (dec_lt (k + m) (length l)) [
+      | yes h ↦ get_or-append (drop m l) (take m l) zero k (omega (arith, length-drop m l)) ∙ get_or-drop m l k zero
+          ∙ ap (λ (i : ℕ). get_or l i zero) {x = m + k} {y = k + m} (omega arith)
+          ∙ ap (λ (i : ℕ). get_or l i zero) (sym (turned_low k m (length l) h))
+      | no h ↦ get_or-append_right (drop m l) (take m l) k zero (omega (arith, h, length-drop m l))
+          ∙ get_or-take m l (k - length (drop m l)) zero (omega (arith, h, length-drop m l))
+          ∙ ap (λ (i : ℕ). get_or l i zero) {x = k - length (drop m l)} {y = k + m - length l} (omega (arith, h, hm, length-drop m l))
+          ∙ ap (λ (i : ℕ). get_or l i zero) (sym (turned_high k m (length l) (omega (arith, h))))
+    ]
+
 -- A way that comes round to a smallest event is a ring.
-module _ (r e : Rel) (ir : Inside r) (ie : Inside e) (s n : ℕ) (at : List ℕ) (shortest : Shortest r e n s) (lt : n < 64)
-    (way : Way r e s n at) (len : ℕ) (out : List ℕ) (turned : Turned at (n + 1) len out) where
-  pub ring_of_way : Ring r e (take len out)
+module _ (r e : Rel) (ir : Inside r) (ie : Inside e) (s n : ℕ) (at : List ℕ) (fewest : NoneBelow n r e)
+    (way : Way r e s n at) (out : List ℕ) (turned : Turned at out) where
+  pub turned_long : length out ≡ n + 1
+  turned_long = ap length turned.turned ∙ length-append (drop turned.shift at) (take turned.shift at)
+      ∙ omega (arith, length-drop turned.shift at, length-take-le turned.shift at (omega (arith, turned.front.inside)), turned.front.inside, way.long)
+
+  pub ring_of_way : Ring r e out
   unfolding after
   ring_of_way =
       record {
@@ -267,32 +313,36 @@ module _ (r e : Rel) (ir : Inside r) (ie : Inside e) (s n : ℕ) (at : List ℕ)
       m : ℕ
       m = turned.shift
 
+      front : SmallestAt at (n + 1) m
+      front = subst (λ (k : ℕ). SmallestAt at k m) (omega (arith, way.long)) turned.front
+
       shift_le : m ≤ n
-      shift_le = omega (arith, turned.front.inside)
+      shift_le = omega (arith, front.inside)
 
       from : ℕ → ℕ
       from k = turned_to k m (n + 1)
 
-      long : length (take len out) ≡ n + 1
-      long = length-take-le len out (omega (arith, turned.same, turned.long)) ∙ turned.same
+      long : length out ≡ n + 1
+      long = turned_long
 
       at_place : (k : ℕ) → k < n + 1 → Place k m (n + 1) (from k)
-      at_place k h = place k m (n + 1) h turned.front.inside
+      at_place k h = place k m (n + 1) h front.inside
 
-      event : (k d : ℕ) → k < n + 1 → get_or (take len out) k d ≡ get_or at (from k) zero
+      event : (k d : ℕ) → k < n + 1 → get_or out k d ≡ get_or at (from k) zero
       event k d h =
-          get_d_any (take len out) k d zero (omega (arith, long))
-          ∙ get_or-take len out k zero (omega (arith, turned.same)) ∙ turned.each k h
+          get_d_any out k d zero (omega (arith, long)) ∙ ap (λ (l : List ℕ). get_or l k zero) turned.turned
+          ∙ turned_at at m k (omega (arith, shift_le, way.long)) (omega (arith, way.long))
+          ∙ ap (λ (c : ℕ). get_or at (turned_to k m c) zero) {x = length at} {y = n + 1} (omega (arith, way.long))
 
-      first_event : get_or (take len out) zero zero ≡ get_or at m zero
+      first_event : get_or out zero zero ≡ get_or at m zero
       first_event = event zero zero (omega arith)
           ∙ ap (λ (j : ℕ). get_or at j zero) (zero_place (at_place zero (omega arith)) (omega (arith, shift_le)))
 
       -- the event after the last place is the first
-      wraps : (k : ℕ) → k ≡ n → after (take len out) k ≡ get_or at m zero
-      wraps k q = get_or-eq_default (take len out) _ (omega (arith, long)) ∙ first_event
+      wraps : (k : ℕ) → k ≡ n → after out k ≡ get_or at m zero
+      wraps k q = get_or-eq_default out _ (omega (arith, long)) ∙ first_event
 
-      next : (k : ℕ) → k < n + 1 → (from k ≡ n → ⊥) → after (take len out) k ≡ get_or at (suc (from k)) zero
+      next : (k : ℕ) → k < n + 1 → (from k ≡ n → ⊥) → after out k ≡ get_or at (suc (from k)) zero
       next k h d =
           elim (dec_lt k n) [
             | yes g ↦ event (suc k) _ (omega arith)
@@ -303,7 +353,7 @@ module _ (r e : Rel) (ir : Inside r) (ie : Inside e) (s n : ℕ) (at : List ℕ)
                 ∙ ap (λ (j : ℕ). get_or at j zero) (last_place (subst (λ (x : ℕ). Place x m (n + 1) (from k)) q (at_place k h)) shift_le d)
           ]
 
-      back : (k : ℕ) → k < n + 1 → from k ≡ n → after (take len out) k ≡ s
+      back : (k : ℕ) → k < n + 1 → from k ≡ n → after out k ≡ s
       back k h e' =
           elim (dec_lt k n) [
             | yes g ↦ event (suc k) _ (omega arith)
@@ -317,9 +367,9 @@ module _ (r e : Rel) (ir : Inside r) (ie : Inside e) (s n : ℕ) (at : List ℕ)
           ]
         where
           start : s ≡ get_or at zero zero
-          start = way_start r e ir ie s n at shortest lt way
+          start = way_start r e ir ie s n at fewest way
 
-      way_distinct_at : (i j : ℕ) → i < j → j < n + 1 → get_or (take len out) i zero ≡ get_or (take len out) j zero → ⊥
+      way_distinct_at : (i j : ℕ) → i < j → j < n + 1 → get_or out i zero ≡ get_or out j zero → ⊥
       way_distinct_at i j a b p =
           let same : get_or at (from i) zero ≡ get_or at (from j) zero = sym (event i zero (omega arith)) ∙ p ∙ event j zero b in
           let pi = at_place i (omega arith) in
@@ -333,10 +383,10 @@ module _ (r e : Rel) (ir : Inside r) (ie : Inside e) (s n : ℕ) (at : List ℕ)
           ]
         where
           apart : (i j : ℕ) → i < j → j ≤ n → get_or at i zero ≡ get_or at j zero → ⊥
-          apart = way_distinct r e ir ie s n at shortest lt way
+          apart = way_distinct r e ir ie s n at fewest way
 
-      smallest_at : (k : ℕ) → k < n + 1 → get_or (take len out) zero zero ≤ get_or (take len out) k zero
-      smallest_at k h = rw (first_event, event k zero h) (turned.front.least (from k) (at_place k h).inside)
+      smallest_at : (k : ℕ) → k < n + 1 → get_or out zero zero ≤ get_or out k zero
+      smallest_at k h = rw (first_event, event k zero h) (front.least (from k) (at_place k h).inside)
 
       closing_in : n - m < n + 1
       closing_in = omega arith
@@ -344,28 +394,26 @@ module _ (r e : Rel) (ir : Inside r) (ie : Inside e) (s n : ℕ) (at : List ℕ)
       closing_end : from (n - m) ≡ n
       closing_end = turned_low (n - m) m (n + 1) (omega (arith, shift_le)) ∙ omega (arith, shift_le)
 
-      step_at : (k : ℕ) → k < n + 1 → (k ≡ n - m → ⊥) → r (get_or (take len out) k zero) (after (take len out) k) ≡ true
+      step_at : (k : ℕ) → k < n + 1 → (k ≡ n - m → ⊥) → r (get_or out k zero) (after out k) ≡ true
       step_at k h d =
           let inner : from k ≡ n → ⊥ = λ q. d (end_place (at_place k h) h shift_le q) in
           rw (event k zero h, next k h inner) (way.step (from k) (omega (arith, inner, (at_place k h).inside)))
 
-      close_at : e (get_or (take len out) (n - m) zero) (after (take len out) (n - m)) ≡ true
+      close_at : e (get_or out (n - m) zero) (after out (n - m)) ≡ true
       close_at = rw (event (n - m) zero closing_in, back (n - m) closing_in closing_end, closing_end) way.close
 
 -- The answer of the ring routine.
-pub ring_none : {r e : Rel} {n s : ℕ} {l : List ℕ} → Inside r → Inside e → Shortest r e n s → 64 ≤ n → length l ≡ zero → RingOrNone r e l
-ring_none ir ie w h p = record { none = λ q. none_back _ _ ir ie _ _ h w; ring = λ q. absurd (omega arith) }
+pub ring_none : {r e : Rel} {l : List ℕ} → Inside r → Inside e → NoneBelow 64 r e → l ≡ [] → RingOrNone r e l
+ring_none ir ie w p = record { none = λ q. none_back _ _ ir ie w; ring = λ q. absurd (omega (arith, ap length p)) }
 
-pub ring_some : {r e : Rel} {n s k len : ℕ} {at out : List ℕ} → Inside r → Inside e → Shortest r e n s → n < 64 → Way r e s n at
-    → Turned at k len out → k ≡ n + 1 → RingOrNone r e (take len out)
-ring_some {r} {e} {n} {s} {len = len} {at} {out} ir ie w h y turned all =
-    let t : Turned at (n + 1) len out = subst (λ (m : ℕ). Turned at m len out) all turned in
-    let long : length (take len out) ≡ n + 1 = length-take-le len out (omega (arith, t.same, t.long)) ∙ t.same in
+pub ring_some : {r e : Rel} {n s : ℕ} {at out : List ℕ} → Inside r → Inside e → Shortest r e n s → Way r e s n at → Turned at out → RingOrNone r e out
+ring_some {r} {e} {n} {s} {at} {out} ir ie w y t =
+    let long : length out ≡ n + 1 = turned_long r e ir ie s n at w.fewest y out t in
     record {
       none = λ q. absurd (omega (arith, q, long));
       ring = λ q. record {
-        ring = ring_of_way r e ir ie s n at w h y len out t;
-        fewest = λ k ring. omega (arith, long, no_shorter_ring r e ir ie n s w k ring);
+        ring = ring_of_way r e ir ie s n at w.fewest y out t;
+        fewest = λ k ring. omega (arith, long, no_shorter_ring r e ir ie n w.fewest k ring);
       };
     }
 
@@ -378,31 +426,28 @@ pub power_then : (r p q : Rel) (n : ℕ) → p ≡ power n r → q ≡ compose n
 unfolding power
 power_then r p q n a b = rw (add-one n) (b ∙ ap (λ (f : Rel). compose nodes f r) a)
 
--- A closing relation may be given the other way round.
-pub shortest_by : (r b e : Rel) (n s : ℕ) → b ≡ inverse e → Shortest r (inverse b) n s → Shortest r e n s
-shortest_by r b e n s p w = subst (λ (c : Rel). Shortest r c n s) (inverse_back b e p) w
-
--- One round of `shortest`: an event that n steps and e bring back to itself, or none.
-module _ (r e p : Rel) (x : Set) (n s : ℕ) (at_n : p ≡ power n r) (returning : x ≡ diagonal (compose nodes p e))
-    (first : s ≡ least 64 x) where
+-- One round of `shortest`: an event that n steps and e, given the other way round, bring back to itself, or none.
+module _ (r b e p : Rel) (x : Set) (n : ℕ) (other : b ≡ inverse e) (at_n : p ≡ power n r)
+    (returning : x ≡ diagonal (compose nodes p (inverse b))) where
   on : x ≡ diagonal (compose nodes (power n r) e)
-  on = returning ∙ ap (λ (f : Rel). diagonal (compose nodes f e)) at_n
+  on = returning ∙ ap₂ (λ (f c : Rel). diagonal (compose nodes f c)) at_n (inverse_back b e other)
 
-  pub round_found : n < 64 → s < 64 → ((m : ℕ) → m < n → (t : ℕ) → compose nodes (power m r) e t t ≡ false) → Shortest r e n s
+  pub round_found : {s : ℕ} → smallest x ≡ Some s → n < 64 → NoneBelow n r e → Shortest r e n s
   unfolding diagonal
-  round_found h g fewer =
+  round_found {s} first h fewer =
       record {
-        bound = omega arith;
-        inside = λ q. g;
-        closes = λ q. ap (λ (f : Set). f s) (sym on) ∙ rw first ((least_is 64 x).member (omega arith));
+        few = h;
+        inside = (smallest_some x s first).1;
+        closes = ap (λ (f : Set). f s) (sym on) ∙ smallest_member x s first;
         fewest = fewer;
       }
 
-  pub round_none : ((t : ℕ) → 64 ≤ t → x t ≡ false) → 64 ≤ s → (t : ℕ) → compose nodes (power n r) e t t ≡ false
+  pub round_none : ((t : ℕ) → 64 ≤ t → x t ≡ false) → smallest x ≡ None → NoneBelow n r e → NoneBelow (n + 1) r e
   unfolding diagonal
-  round_none out g t =
-      ap (λ (f : Set). f t) (sym on)
-      ∙ elim (dec_lt t 64) [ yes h ↦ (least_is 64 x).smaller t (omega (arith, first, g, h)) | no h ↦ out t (omega (arith, h)) ]
+  round_none out none fewer =
+      below_more _ n fewer
+      (λ t. ap (λ (f : Set). f t) (sym on)
+      ∙ elim (dec_lt t 64) [ yes h ↦ smallest_nothing x none t h | no h ↦ out t (omega (arith, h)) ])
 
 -- The place of a smallest, one event more at a time.
 pub smallest_one : (at : List ℕ) → SmallestAt at 1 0
@@ -417,24 +462,3 @@ smallest_old at m k w h = record { inside = omega (arith, w.inside); least = bel
 
 pub smallest_done : (at : List ℕ) (m k n : ℕ) → k ≡ n → SmallestAt at k m → SmallestAt at n m
 smallest_done at m k n e w = subst (λ (j : ℕ). SmallestAt at j m) e w
-
--- Places turned, one more at a time.
-pub record Turning (at : List ℕ) (n m : ℕ) (out : List ℕ) (k : ℕ) : Type 0 where
-  pub long : length out ≡ 64
-  pub each : (j : ℕ) → j < k → get_or out j zero ≡ get_or at (turned_to j m n) zero
-
-pub turning_none : {at : List ℕ} {n m : ℕ} {out : List ℕ} → length out ≡ 64 → Turning at n m out 0
-turning_none l = record { long = l; each = λ j h. absurd (omega arith) }
-
-pub turning_more : {at : List ℕ} {n m : ℕ} {out : List ℕ} {k j : ℕ} → Turning at n m out k → k < 64 → j ≡ turned_to k m n
-    → Turning at n m (set out k (get_or at j zero)) (k + 1)
-turning_more {at} {out = out} {k} w h e =
-    record {
-      long = length-set out k _ ∙ w.long;
-      each = below_more _ k (λ i q. get_or-set_other out k i _ zero (omega arith) ∙ w.each i q)
-          (get_or-set_same out k _ zero (omega (arith, w.long)) ∙ ap (λ (i : ℕ). get_or at i zero) e);
-    }
-
-pub turning_all : {at : List ℕ} {n m : ℕ} {out : List ℕ} {k : ℕ} → n ≤ k → Turning at n m out k → SmallestAt at n m → Turned at n n out
-turning_all {m = m} h w s =
-    record { same = refl; long = w.long; shift = m; front = s; each = λ j q. w.each j (omega arith) }

@@ -1,7 +1,7 @@
 -- Laws of a row as one number: its bits are the row's, and its lowest set bit is the smallest member.
 use mathlib.Core.Path.{◌≡◌, refl, sym, ap, ap₂, subst, ◌∙◌, fun_ext}
 use mathlib.Core.List.{List, [], ◌∷◌}
-use mathlib.Core.Bool.{Bool, true, false, ◌&&◌, ◌||◌, or-false}
+use mathlib.Core.Bool.{Bool, true, false, not, ◌&&◌, ◌||◌, or-false}
 use Prim.Native.Nat.{ℕ, zero, suc, ◌+◌, ◌-◌, ◌*◌, ◌/◌, ◌%◌, ◌^◌, ◌<◌, ◌≤◌}
 use native.Mathlib.Nat.{zero-div, mul_assoc, div-one}
 use native.Mathlib.Omega.{arith}
@@ -13,11 +13,15 @@ use lib.Pow.{pow-add, shr_lt, shl-shr, shr-shr, shl_exact, high, ones_lt, ones_s
 use lib.Bits.{bit_and, bit_or, and_mask, or_shifted, shifted_even}
 use lib.Count.{ones, ones_step, ones-le, count_trailing_zeros, under, trailing_le}
 use lib.ListN.{length, get_or, replicate, get_or-replicate, get_or-eq_default}
-use Rattle.relation.specs.Rel.{Set, single, union, intersection, difference, least, count, Next}
+use mir.Syntax.{w64}
+use Rattle.std.specs.Prelude.{Some, None}
+use Rattle.std.proofs.lemmas.Nat.Bits.{bit_at-trailing_zeros}
+use Rattle.relation.specs.Rel.{Set, single, union, intersection, difference, least, smallest, some, nodes, members, count}
 use Rattle.relation.specs.Bits.{on, bit}
 use Rattle.relation.specs.Ring as ring
 use Rattle.relation.proofs.ByteLaws.{digits, Bitwise, on_or, on_and, on_but, bit_but, but, on_zero, bit_in, bit_out}
-use Rattle.relation.proofs.SetLaws.{Least, least_is}
+use Rattle.relation.proofs.SmallestLaws.{smallest_below, smallest_none, smallest_not, empty_by_least, filled_by_least}
+use Rattle.relation.proofs.MemberLaws.{members_first, members_none}
 use Rattle.relation.proofs.Counting.{count_add}
 
 -- Below k, w times 2 ^ k has no bit; from k on it has those of w.
@@ -245,38 +249,40 @@ trailing_least (suc k) w = go (w % 2) (omega arith) (on_lowest w) (trailing_leas
 pub trailing_fits : (w : ℕ) → count_trailing_zeros 64 w ≤ 64
 trailing_fits w = trailing_le 64 w
 
--- The smallest member from i on, by the row shifted down to i.
-module _ (s : Set) (w : ℕ) (is : s ≡ on w) (i : ℕ) where
-  shifted : (m : ℕ) → i ≤ m → s m ≡ on (w / 2 ^ i) (m - i)
-  unfolding on
-  shifted m h =
-      ap (λ (f : Set). f m) is
-      ∙ ap (λ (n : ℕ). eqb (n % 2) 1) (ap (λ (n : ℕ). w / 2 ^ n) {x = m} {y = i + (m - i)} (omega arith) ∙ sym (shr-shr w i (m - i)))
+-- The smallest member of the set of a number's bits.
+least_on : (w : ℕ) → (w ≡ 0 → ⊥) → w < 2 ^ 64 → least 64 (on w) < 64
+least_on w d h =
+    let (p, q, r) = bit_at-trailing_zeros w64 w (omega (arith, d)) h in
+    let e : count_trailing_zeros 64 w ≡ least 64 (on w) = trailing_least 64 w in omega (arith, e, p)
 
-  zeros : Least 64 (on (w / 2 ^ i)) (count_trailing_zeros 64 (w / 2 ^ i))
-  zeros = subst (Least 64 (on (w / 2 ^ i))) (sym (trailing_least 64 (w / 2 ^ i))) (least_is 64 (on (w / 2 ^ i)))
+pub lowest_inside : (w : ℕ) → (w ≡ 0 → ⊥) → w < 2 ^ 64 → count_trailing_zeros 64 w < 64
+lowest_inside w d h = let e : count_trailing_zeros 64 w ≡ least 64 (on w) = trailing_least 64 w in omega (arith, e, least_on w d h)
 
-  pub next_found : i + count_trailing_zeros 64 (w / 2 ^ i) < 64 → Next s i (i + count_trailing_zeros 64 (w / 2 ^ i))
-  next_found h =
-      let t = count_trailing_zeros 64 (w / 2 ^ i) in
-      record {
-        low = omega arith;
-        high = omega arith;
-        before = λ m g l. shifted m g ∙ zeros.smaller (m - i) (omega arith);
-        member = λ g. shifted (i + t) (omega arith) ∙ ap (on (w / 2 ^ i)) {x = (i + t) - i} {y = t} (omega arith) ∙ zeros.member (omega arith);
-      }
+pub smallest_on : (w : ℕ) → (w ≡ 0 → ⊥) → w < 2 ^ 64 → Some (count_trailing_zeros 64 w) ≡ smallest (on w)
+smallest_on w d h = ap Some (trailing_least 64 w) ∙ sym (smallest_below (on w) (least_on w d h))
 
-  pub next_none : i ≤ 64 → 64 ≤ i + count_trailing_zeros 64 (w / 2 ^ i) → Next s i 64
-  next_none g h =
-      record {
-        low = g;
-        high = omega arith;
-        before = λ m l k. shifted m l ∙ zeros.smaller (m - i) (omega arith);
-        member = λ l. absurd (omega arith);
-      }
+pub none_on : (w : ℕ) → w ≡ 0 → smallest (on w) ≡ None
+none_on w e = ap (λ (n : ℕ). smallest (on n)) e ∙ smallest_not (on 0) (λ m h. on_zero m)
 
-pub next_end : (s : Set) (i : ℕ) → i ≡ 64 → Next s i 64
-next_end s i e = record { low = omega arith; high = omega arith; before = λ m l k. absurd (omega arith); member = λ l. absurd (omega arith) }
+pub empty_on : (w : ℕ) → w < 2 ^ 64 → eqb w 0 ≡ not (some nodes (on w))
+empty_on w h =
+    elim (ℕ_discrete w 0) [
+      | yes e ↦ eq-eqb w 0 e ∙ sym (empty_by_least (on w) (smallest_none (on w) (none_on w e)))
+      | no d ↦ ne_eqb w 0 d ∙ sym (filled_by_least (on w) (least_on w d h))
+    ]
+
+-- Its members: the lowest bit, and those of the number without that bit.
+pub members_on : (w : ℕ) → (w ≡ 0 → ⊥) → w < 2 ^ 64
+    → members (on w) ≡ count_trailing_zeros 64 w ∷ members (on (bit_but w (flag (count_trailing_zeros 64 w))))
+members_on w d h =
+    let k = count_trailing_zeros 64 w in
+    let e : k ≡ least 64 (on w) = trailing_least 64 w in
+    let below : k < 64 = omega (arith, e, least_on w d h) in
+    members_first (on w) k (sym (smallest_on w d h))
+    ∙ ap (λ (s : Set). k ∷ members s) (sym (on_difference (on w) (single k) w (flag k) refl (on_single k below)))
+
+pub members_on_none : (w : ℕ) → w ≡ 0 → members (on w) ≡ []
+members_on_none w e = members_none (on w) (none_on w e)
 
 -- Whether a bit is on, as the code tests it.
 pub on_has : (w j : ℕ) → eqb (bit_and (w / 2 ^ j) 1) 1 ≡ on w j

@@ -1,7 +1,8 @@
 -- Relations and sets of events, as Bool-valued functions of event numbers, and the operators on them.
 -- An operator that looks for an event between two others takes the list of events to look in.
 -- `proofs/Meaning.antt` has the theorems that say what each means: "there is an event between", "one or more steps".
-use Rattle.std.specs.Prelude.{List, [], ◌∷◌, Bool, true, false, not, ◌&&◌, ◌||◌, ◌≡◌, ℕ, zero, suc, ◌≤◌, ◌<◌, eqb, ltb, Option, Some, None}
+use Rattle.std.specs.Prelude.{List, [], ◌∷◌, Bool, true, false, not, ◌&&◌, ◌||◌, ◌≡◌, ℕ, zero, suc, ◌≤◌, ◌<◌, eqb, ltb, Option, Some, None, filter}
+use Rattle.std.specs.List.{range_with_len}
 
 -- A set of events.
 abbrev pub Set : Type 0
@@ -120,6 +121,10 @@ least (suc n) s = elim (s zero) [ true ↦ zero | false ↦ suc (least n (λ j. 
 -- The smallest number below 64 in s, where there is one.
 unfoldable pub smallest : Set → Option ℕ
 smallest s = elim (ltb (least 64 s) 64) [ true ↦ Some (least 64 s) | false ↦ None ]
+
+-- The members below 64, the smallest first.
+unfoldable pub members : Set → List ℕ
+members s = filter s (range_with_len 0 64)
 
 -- n is the smallest number from i on that is in s, or 64 where none below 64 is.
 pub record Next (s : Set) (i n : ℕ) : Type 0 where

@@ -1,7 +1,6 @@
 -- Rings: what a ring of a relation is, which are the shortest, and what the ring routine answers (01, "What is shown"; 02, slip 5).
 -- A ring's closing step may be of another relation than its other steps.
-use Rattle.std.specs.Prelude.{◌≡◌, List, true, false, ℕ, zero, suc, ◌+◌, ◌-◌, ◌<◌, ◌≤◌, ltb, length, get_or, Option, Some, None}
-use Rattle.relation.specs.declared.ring.Start.{Start}
+use Rattle.std.specs.Prelude.{◌≡◌, List, ◌++◌, true, false, ℕ, zero, suc, ◌<◌, ◌≤◌, ltb, length, get_or, take, drop}
 use Rattle.relation.specs.Rel.{Rel, Set, either, image, compose, inverse, plus, identity, nodes}
 
 -- The event that follows position k of a ring: the first event follows the last.
@@ -43,48 +42,42 @@ power (suc n) r = compose nodes (power n r) r
 
 -- The rest says what the parts of the ring routine do.
 
--- n is the fewest steps of r after which e closes a way from an event back to itself, and s such an event; n is 64 where there is none.
+-- n is the fewest steps of r after which e closes a way from an event back to itself, and s such an event.
 pub record Shortest (r e : Rel) (n s : ℕ) : Type 0 where
-  pub bound : n ≤ 64
-  pub inside : n < 64 → s < 64
-  pub closes : n < 64 → compose nodes (power n r) e s s ≡ true
+  pub few : n < 64
+  pub inside : s < 64
+  pub closes : compose nodes (power n r) e s s ≡ true
   pub fewest : (m : ℕ) → m < n → (t : ℕ) → compose nodes (power m r) e t t ≡ false
 
--- s is where the fewest such steps start, and None where no ring is closed.
-abbrev pub ShortestOrNone : Rel → Rel → Option Start → Type 0
-ShortestOrNone r e None = Shortest r e 64 64
-ShortestOrNone r e (Some s) = Shortest r e s.steps s.event × (s.steps < 64)
+-- After fewer than n steps of r, e closes no way.
+abbrev pub NoneBelow : ℕ → Rel → Rel → Type 0
+NoneBelow n r e = (m : ℕ) → m < n → (t : ℕ) → compose nodes (power m r) e t t ≡ false
 
 -- Each row of h but the first holds what leads there, by b backward, from the row before it.
 pub record Levels (h b : Rel) : Type 0 where
   pub leads : (k : ℕ) → suc k < 64 → h (suc k) ≡ image nodes (h k) (inverse b)
 
--- The first n + 1 of `at` are steps of b backward from x, each in its row of h.
-pub record StepsBack (h b : Rel) (n x : ℕ) (at : List ℕ) : Type 0 where
-  pub long : length at ≡ 64
-  pub end : get_or at n zero ≡ x
-  pub level : (k : ℕ) → k ≤ n → h k (get_or at k zero) ≡ true
-  pub step : (k : ℕ) → k < n → b (get_or at (suc k) zero) (get_or at k zero) ≡ true
+-- The list is n steps of b backward from x, which is its last event, each event in its row of h.
+pub record StepsBack (h b : Rel) (n x : ℕ) (l : List ℕ) : Type 0 where
+  pub long : length l ≡ suc n
+  pub end : get_or l n zero ≡ x
+  pub level : (k : ℕ) → k ≤ n → h k (get_or l k zero) ≡ true
+  pub step : (k : ℕ) → k < n → b (get_or l (suc k) zero) (get_or l k zero) ≡ true
 
--- The first n + 1 of `at` are a way of n steps of r from s, whose end e closes.
-pub record Way (r e : Rel) (s n : ℕ) (at : List ℕ) : Type 0 where
-  pub long : length at ≡ 64
-  pub level : (k : ℕ) → k ≤ n → power k r s (get_or at k zero) ≡ true
-  pub step : (k : ℕ) → k < n → r (get_or at k zero) (get_or at (suc k) zero) ≡ true
-  pub close : e (get_or at n zero) s ≡ true
+-- The list is a way of n steps of r from s, whose end e closes.
+pub record Way (r e : Rel) (s n : ℕ) (l : List ℕ) : Type 0 where
+  pub long : length l ≡ suc n
+  pub level : (k : ℕ) → k ≤ n → power k r s (get_or l k zero) ≡ true
+  pub step : (k : ℕ) → k < n → r (get_or l k zero) (get_or l (suc k) zero) ≡ true
+  pub close : e (get_or l n zero) s ≡ true
 
 -- m is the place of a smallest of the first n.
-pub record SmallestAt (at : List ℕ) (m : ℕ) : Type 0 where
-  pub inside : m < length at
-  pub least : (k : ℕ) → k < length at → get_or at m zero ≤ get_or at k zero
+pub record SmallestAt (l : List ℕ) (n m : ℕ) : Type 0 where
+  pub inside : m < n
+  pub least : (k : ℕ) → k < n → get_or l m zero ≤ get_or l k zero
 
--- The index that comes to k when n places are rotated left by m.
-unfoldable pub turned_to : ℕ → ℕ → ℕ → ℕ
-turned_to k m n = elim (ltb (k + m) n) [ true ↦ k + m | false ↦ k + m - n ]
-
--- `out` is `at`, rotated left so that a smallest stands first.
-pub record Turned (at out : List ℕ) : Type 0 where
-  pub same : length out ≡ length at
+-- `out` is the list, rotated left so that a smallest stands first.
+pub record Turned (l out : List ℕ) : Type 0 where
   pub shift : ℕ
-  pub front : SmallestAt at shift
-  pub each : (k : ℕ) → k < length at → get_or out k zero ≡ get_or at (turned_to k shift (length at)) zero
+  pub front : SmallestAt l (length l) shift
+  pub turned : out ≡ drop shift l ++ take shift l

@@ -1,7 +1,7 @@
 // A relation as a grid of 64 rows: j is in row i where the relation holds from i to j.
 // A grid is an array of arrays by value.
 
-ghost use Rattle.std.specs.Prelude.{◌≡◌, ◌<◌};
+ghost use Rattle.std.specs.Prelude.{◌≡◌, ℕ, ◌<◌, [], get_or};
 ghost use Rattle.relation.specs.Rel.{none, pair, either, both, minus, inverse, identity, product, from, into, image, compose, plus, optional, star, diagonal, nodes};
 ghost use Rattle.relation.specs.Bits.{bit, edge};
 
@@ -49,6 +49,7 @@ pub fn with(g: Grid, i: usize, j: usize) -> Grid
 // The relation whose row of each event is made of its rows in a and b.
 fn row_by_row<F: Fn(Row, Row) -> Row>(a: Grid, b: Grid, join: F) -> Grid
     requires { F.IsAlwaysCallable join }
+    ensures { (i : ℕ) → i < 64 → F.post join (get_or a i []) (get_or b i []) (get_or result i []) }
 {
     let mut h = a;
     for i in 0..64 {
@@ -84,8 +85,8 @@ pub fn image(s: Row, g: Grid) -> Row
 {
     let mut r = row::none();
     for i in row::members(s) {
-        let z = row::or(r, g[i]);
-        r = z;
+        let reached = row::or(r, g[i]);
+        r = reached;
     }
     r
 }
@@ -94,7 +95,7 @@ pub fn image(s: Row, g: Grid) -> Row
 pub fn then(a: Grid, b: Grid) -> Grid
     ensures { edge result ≡ compose nodes (edge a) (edge b) }
 {
-    let mut h = empty();
+    let mut h = a;
     for i in 0..64 {
         h[i] = image(a[i], b);
     }
@@ -151,19 +152,27 @@ pub fn into(g: Grid, s: Row) -> Grid
     h
 }
 
+// The events that pass a test.
+fn passing<F: Fn(usize) -> bool>(test: F) -> Row
+    requires { (i : ℕ) → i < 64 → F.pre test i }
+    ensures { (i : ℕ) → i < 64 → F.post test i (bit result i) }
+{
+    let mut r = row::none();
+    for i in 0..64 {
+        if test(i) {
+            let more = row::with(r, i);
+            r = more;
+        }
+    }
+    r
+}
+
 // The events that are related to j.
 pub fn column(g: Grid, j: usize) -> Row
     requires { j < 64 }
     ensures { bit result ≡ inverse (edge g) j }
 {
-    let mut r = row::none();
-    for i in 0..64 {
-        if row::has(g[i], j) {
-            let z = row::with(r, i);
-            r = z;
-        }
-    }
-    r
+    passing(|i| has(g, i, j))
 }
 
 // The relation the other way round.
@@ -183,28 +192,14 @@ pub fn inverse(g: Grid) -> Grid
 pub fn diagonal(g: Grid) -> Row
     ensures { bit result ≡ diagonal (edge g) }
 {
-    let mut r = row::none();
-    for i in 0..64 {
-        if row::has(g[i], i) {
-            let z = row::with(r, i);
-            r = z;
-        }
-    }
-    r
+    passing(|i| row::has(g[i], i))
 }
 
 // The diagonal of a ; b⁻¹: the events whose rows of a and b share a member.
 pub fn returning(a: Grid, b: Grid) -> Row
     ensures { bit result ≡ diagonal (compose nodes (edge a) (inverse (edge b))) }
 {
-    let mut r = row::none();
-    for i in 0..64 {
-        if !row::is_empty(row::and(a[i], b[i])) {
-            let z = row::with(r, i);
-            r = z;
-        }
-    }
-    r
+    passing(|i| !row::is_empty(row::and(a[i], b[i])))
 }
 
 // g, or the identity on s.

@@ -2,8 +2,9 @@
 
 ghost use Rattle.std.specs.Prelude.{◌≡◌, ◌≤◌};
 ghost use Rattle.arrayvec.specs.ArrayVec.{array_vec_len};
+ghost use Rattle.relation.specs.Rel.{inverse, smallest};
 ghost use Rattle.relation.specs.Bits.{bit, edge};
-ghost use Rattle.relation.specs.Order.{order};
+ghost use Rattle.relation.specs.Order.{order, ready};
 
 use crate::grid::Grid;
 use crate::row::Row;
@@ -17,20 +18,18 @@ pub fn order(g: Grid, s: Row) -> Events
     let before = grid::inverse(g);
     let mut left = s;
     let mut events = Events::new();
-    for _ in 0..64 {
-        // the smallest event left that none left precedes
-        let Some(k) = next_of(before, left) else {
-            return events;
-        };
+    while let Some(k) = next_of(before, left) {
         events.push(k as u8);
-        let z = row::without(left, k);
-        left = z;
+        let rest = row::without(left, k);
+        left = rest;
     }
     events
 }
 
 // The smallest of the events left that none of them precedes, where there is one.
-fn next_of(before: Grid, left: Row) -> Option<usize> {
+fn next_of(before: Grid, left: Row) -> Option<usize>
+    ensures { result ≡ smallest (ready (inverse (edge before)) (bit left)) }
+{
     for k in row::members(left) {
         if row::is_empty(row::and(before[k], left)) {
             return Some(k);

@@ -1,7 +1,8 @@
 // A set of events as a row of eight bytes, one bit per event: event j is bit j % 8 of byte j / 8.
 
-ghost use Rattle.std.specs.Prelude.{◌≡◌, not, ◌<◌, ◌≤◌};
-ghost use Rattle.relation.specs.Rel.{empty, single, given, union, intersection, difference, smallest, some, nodes, count};
+ghost use Rattle.std.specs.Prelude.{◌≡◌, not, ◌<◌, ◌≤◌, IfSome};
+ghost use Rattle.relation.specs.Rel.{empty, single, given, union, intersection, difference, smallest, some, nodes, count, members};
+ghost use Rattle.std.specs.Iterator.{YieldsFirst, item_count};
 ghost use Rattle.relation.specs.Bits.{on, bit, byte_or};
 ghost use Rattle.relation.specs.Ring.{under};
 
@@ -153,22 +154,32 @@ pub fn size(row: Row) -> usize
 }
 
 // The members of a set, the smallest first.
-pub fn members(row: Row) -> MemberIter {
-    MemberIter { rest: row }
+pub fn members(row: Row) -> MemberIter
+    ensures { on result.rest ≡ bit row }
+{
+    MemberIter { rest: word(row) }
 }
 
-// Goes over the members of a set, the smallest first.
+// Goes over the members of a set, the smallest first: those left are the bits of a number.
 #[derive(Clone, Copy)]
 pub struct MemberIter {
-    rest: Row,
+    rest: u64,
 }
 
 impl Iterator for MemberIter {
     type Item = usize;
 
+    ghost next_gives = { λ s j t. YieldsFirst (λ s. members (on s.rest)) s j t × IfSome j (λ j. j < 64) };
+
+    ghost remaining = { item_count (λ s. members (on s.rest)) };
+
     fn next(&mut self) -> Option<usize> {
-        let j = first(self.rest)?;
-        self.rest = without(self.rest, j);
-        Some(j)
+        let w = self.rest;
+        if w == 0 {
+            return None;
+        }
+        let j = w.trailing_zeros();
+        self.rest = w ^ (w & (1u64 << j));
+        Some(j as usize)
     }
 }

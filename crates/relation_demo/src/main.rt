@@ -2,19 +2,14 @@
 
 #![tactic(auto)]
 
-ghost use Rattle.std.specs.Prelude.{◌≤◌};
-
-use relation::Sequence;
+use relation::Events;
 use relation::grid::Grid;
 use relation::row::Row;
 use std::io;
 
 // The events found, each behind a space, and a line feed.
-fn show(rt: &impl Print, found: Sequence) -> io::Result<()>
-    requires { found.len ≤ 64 }
-{
-    let Sequence { at, len } = found;
-    for event in &at[..len] {
+fn show(rt: &impl Print, found: Events) -> io::Result<()> {
+    for event in &found {
         print!(rt; " {event}")?;
     }
     println!(rt)

@@ -1,16 +1,14 @@
-use Rattle.std.proofs.Common.{rules, ◌≡◌, ◌<◌, ℕ, ◌+◌, ◌-◌, ◌*◌, ◌≤◌, length, ◌/◌, ◌%◌, Bool, true, false, nat_eq, nat_lt, List, [], ◌∷◌, ◌++◌, slice_index_or, slice_set, bit_and, bit_or, Fits, w8, w32, w64, Bor, MutBor}
-use Rattle.relation.specs.Rel.{none, pair, either, both, minus, inverse, identity, product, from, into, image, compose, plus, optional, star, diagonal, nodes}
-use Rattle.relation.specs.Bits.{bit, edge}
+-- `grid::column` meets its contract, event by event.
+use mathlib.Core.Path.{ap}
+use Rattle.relation.specs.Rel.{Set, inverse, empty}
+use Rattle.relation.specs.Bits.{edge}
+use Rattle.relation.proofs.GridLaws.{edge_out}
+use Rattle.relation.proofs.MadeLaws.{set_made, from_fact}
+use borrow.Author.Rules.{rules}
 use Rattle.relation.proofs.grid.column.Goals as goal
 
--- src/grid.rt:160:5
-pub loop-i-init : goal.loop-i-init
-loop-i-init c = ?
-
--- src/grid.rt:160:5
-pub loop-i-preserved : goal.loop-i-preserved
-loop-i-preserved c = ?
-
--- src/grid.rt:155:1
 pub returns : goal.returns
-returns c = ?
+unfolding inverse edge empty
+returns c =
+    set_made _ _ (λ i h. from_fact (c.passing.ensures i h) (λ k. search rules))
+    (λ m h. ap (λ (s : Set). s c.args.j) (edge_out c.args.g (search rules) m h))

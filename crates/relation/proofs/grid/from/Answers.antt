@@ -1,16 +1,22 @@
-use Rattle.std.proofs.Common.{rules, ◌≡◌, ◌<◌, ℕ, ◌+◌, ◌-◌, ◌*◌, ◌≤◌, length, ◌/◌, ◌%◌, Bool, true, false, nat_eq, nat_lt, List, [], ◌∷◌, ◌++◌, slice_index_or, slice_set, bit_and, bit_or, Fits, w8, w32, w64, Bor, MutBor}
-use Rattle.relation.specs.Rel.{none, pair, either, both, minus, inverse, identity, product, from, into, image, compose, plus, optional, star, diagonal, nodes}
-use Rattle.relation.specs.Bits.{bit, edge}
+-- `grid::from` meets its contract, row by row.
+use mathlib.Core.Path.{refl, sym, ◌∙◌}
+use Rattle.relation.specs.Bits.{edge}
+use Rattle.relation.proofs.GridLaws.{chosen_start, chosen_with, chosen_skip, chosen_all}
+use borrow.Author.Rules.{rules}
 use Rattle.relation.proofs.grid.from.Goals as goal
 
--- src/grid.rt:135:5
 pub loop-i-init : goal.loop-i-init
-loop-i-init c = ?
+loop-i-init c = chosen_start (search rules) c.empty-h.ensures
 
--- src/grid.rt:135:5
 pub loop-i-preserved : goal.loop-i-preserved
-loop-i-preserved c = ?
+unfolding edge
+loop-i-preserved c =
+    let inv = c.loop-i.invariant in
+    let test = c.has.ensures in
+    elim c.if-has.branch [
+      | goal.then-has w ↦ rw w.h-is (chosen_with inv c.loop-i-test.true (sym test ∙ w.if-has.true) _ refl)
+      | goal.else-has w ↦ rw w.h-is (chosen_skip inv c.loop-i-test.true (sym test ∙ w.if-has.false))
+    ]
 
--- src/grid.rt:131:1
 pub returns : goal.returns
-returns c = ?
+returns c = chosen_all c.loop-i.invariant c.loop-i-test.false

@@ -1,12 +1,19 @@
-use Rattle.std.proofs.Common.{rules, ◌≡◌, ◌<◌, ℕ, ◌+◌, ◌-◌, ◌*◌, ◌≤◌, length, ◌/◌, ◌%◌, Bool, true, false, nat_eq, nat_lt, List, [], ◌∷◌, ◌++◌, slice_index_or, slice_set, bit_and, bit_or, Fits, w8, w32, w64, Bor, MutBor}
-use Rattle.relation.specs.Rel.{none, pair, either, both, minus, inverse, identity, product, from, into, image, compose, plus, optional, star, diagonal, nodes}
-use Rattle.relation.specs.Bits.{bit, edge}
+-- `grid::image` meets its contract, member by member.
+use mathlib.Core.Path.{ap, ◌∙◌}
+use Rattle.relation.specs.Rel.{members}
+use Rattle.relation.specs.Bits.{on, edge}
+use Rattle.relation.proofs.GridLaws.{reached_first, reached_next, reached_all}
+use borrow.Author.Rules.{rules}
 use Rattle.relation.proofs.grid.image.Goals as goal
 
--- src/grid.rt:86:5
 pub loop-i-init : goal.loop-i-init
-loop-i-init c = ?
+loop-i-init c =
+    (search rules, search rules, reached_first c.none-r.ensures (ap (λ s. members (on s.rest)) c.into_iter-i-iterator.ensures.into_iter_gives ∙ ap members c.members-i-items.ensures))
 
--- src/grid.rt:86:5
 pub loop-i-preserved : goal.loop-i-preserved
-loop-i-preserved c = ?
+unfolding edge
+loop-i-preserved c =
+    (search rules, search rules, reached_next c.loop-i.invariant.2 c.in-Some.ensures.steps.0 c.or-reached.ensures)
+
+pub returns : goal.returns
+returns c = reached_all c.loop-i.invariant.2 c.in-None.ensures.steps.0.0

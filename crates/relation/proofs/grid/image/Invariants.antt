@@ -1,8 +1,10 @@
-use Rattle.std.proofs.Common.{◌≡◌, ◌<◌, ℕ, ◌+◌, ◌-◌, ◌*◌, ◌≤◌, length}
-use Rattle.relation.specs.Rel.{none, pair, either, both, minus, inverse, identity, product, from, into, image, compose, plus, optional, star, diagonal, nodes}
-use Rattle.relation.specs.Bits.{bit, edge}
+-- `grid::image` meets its contract, member by member.
+use Rattle.relation.specs.Rel.{members}
+use Rattle.relation.specs.Bits.{on, bit, edge}
+use Rattle.relation.proofs.GridLaws.{Reached}
 use Rattle.relation.proofs.grid.image.Given as goal
 
 abbrev pub invariant-loop-i : goal.invariant-loop-i
 invariant-loop-i l =
     (goal.iterator-loop-i).can_next l.i-iterator × (goal.iterator-loop-i).is_finite l.i-iterator
+    × Reached (bit l.fn.s) (edge l.g) (bit l.r) (members (on l.i-iterator.rest))

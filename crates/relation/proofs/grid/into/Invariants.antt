@@ -1,7 +1,8 @@
-use Rattle.std.proofs.Common.{◌≡◌, ◌<◌, ℕ, ◌+◌, ◌-◌, ◌*◌, ◌≤◌, length}
-use Rattle.relation.specs.Rel.{none, pair, either, both, minus, inverse, identity, product, from, into, image, compose, plus, optional, star, diagonal, nodes}
-use Rattle.relation.specs.Bits.{bit, edge}
+-- `grid::into` meets its contract, row by row.
+use Rattle.relation.specs.Rel.{intersection}
+use Rattle.relation.specs.Bits.{bit}
+use Rattle.relation.proofs.GridLaws.{Mapped}
 use Rattle.relation.proofs.grid.into.Given as goal
 
 abbrev pub invariant-loop-i : goal.invariant-loop-i
-invariant-loop-i l = ?
+invariant-loop-i l = Mapped (λ m t. intersection t (bit l.s)) l.g l.h l.i

@@ -1,8 +1,14 @@
-use Rattle.std.proofs.Common.{rules, ◌≡◌, ◌<◌, ℕ, ◌+◌, ◌-◌, ◌*◌, ◌≤◌, length, ◌/◌, ◌%◌, Bool, true, false, nat_eq, nat_lt, List, [], ◌∷◌, ◌++◌, slice_index_or, slice_set, bit_and, bit_or, Fits, w8, w32, w64, Bor, MutBor}
-use Rattle.relation.specs.Rel.{none, pair, either, both, minus, inverse, identity, product, from, into, image, compose, plus, optional, star, diagonal, nodes}
-use Rattle.relation.specs.Bits.{bit, edge}
+-- `grid::minus` meets its contract, row by row.
+use mathlib.Core.Path.{ap₂}
+use Rattle.relation.specs.Rel.{difference, minus, empty}
+use Rattle.relation.specs.Bits.{edge}
+use Rattle.relation.proofs.GridLaws.{edge_out}
+use Rattle.relation.proofs.MadeLaws.{rows_made, from_fact}
+use borrow.Author.Rules.{rules}
 use Rattle.relation.proofs.grid.minus.Goals as goal
 
--- src/grid.rt:75:1
 pub returns : goal.returns
-returns c = ?
+unfolding minus edge difference empty
+returns c =
+    rows_made _ _ (search rules) (λ i h. from_fact (c.row_by_row.ensures i h) (λ k. search rules))
+    (λ m h. ap₂ difference (edge_out c.args.a (search rules) m h) (edge_out c.args.b (search rules) m h))

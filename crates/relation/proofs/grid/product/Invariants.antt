@@ -1,7 +1,7 @@
-use Rattle.std.proofs.Common.{◌≡◌, ◌<◌, ℕ, ◌+◌, ◌-◌, ◌*◌, ◌≤◌, length}
-use Rattle.relation.specs.Rel.{none, pair, either, both, minus, inverse, identity, product, from, into, image, compose, plus, optional, star, diagonal, nodes}
-use Rattle.relation.specs.Bits.{bit, edge}
+-- `grid::product` meets its contract, row by row.
+use Rattle.relation.specs.Bits.{bit}
+use Rattle.relation.proofs.GridLaws.{Chosen}
 use Rattle.relation.proofs.grid.product.Given as goal
 
 abbrev pub invariant-loop-i : goal.invariant-loop-i
-invariant-loop-i l = ?
+invariant-loop-i l = Chosen l.s (λ i. bit l.t) l.h l.i

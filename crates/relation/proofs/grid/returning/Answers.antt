@@ -1,16 +1,8 @@
-use Rattle.std.proofs.Common.{rules, ◌≡◌, ◌<◌, ℕ, ◌+◌, ◌-◌, ◌*◌, ◌≤◌, length, ◌/◌, ◌%◌, Bool, true, false, nat_eq, nat_lt, List, [], ◌∷◌, ◌++◌, slice_index_or, slice_set, bit_and, bit_or, Fits, w8, w32, w64, Bor, MutBor}
-use Rattle.relation.specs.Rel.{none, pair, either, both, minus, inverse, identity, product, from, into, image, compose, plus, optional, star, diagonal, nodes}
-use Rattle.relation.specs.Bits.{bit, edge}
+-- `grid::returning` meets its contract, event by event.
+use Rattle.relation.proofs.GridLaws.{returning_at, returning_out}
+use Rattle.relation.proofs.MadeLaws.{set_made, from_fact}
+use borrow.Author.Rules.{rules}
 use Rattle.relation.proofs.grid.returning.Goals as goal
 
--- src/grid.rt:201:5
-pub loop-i-init : goal.loop-i-init
-loop-i-init c = ?
-
--- src/grid.rt:201:5
-pub loop-i-preserved : goal.loop-i-preserved
-loop-i-preserved c = ?
-
--- src/grid.rt:197:1
 pub returns : goal.returns
-returns c = ?
+returns c = set_made _ _ (λ i h. from_fact (c.passing.ensures i h) (λ k. search (rules, returning_at))) (returning_out _ _ (search rules))

@@ -1,16 +1,17 @@
-use Rattle.std.proofs.Common.{rules, ◌≡◌, ◌<◌, ℕ, ◌+◌, ◌-◌, ◌*◌, ◌≤◌, length, ◌/◌, ◌%◌, Bool, true, false, nat_eq, nat_lt, List, [], ◌∷◌, ◌++◌, slice_index_or, slice_set, bit_and, bit_or, Fits, w8, w32, w64, Bor, MutBor}
-use Rattle.relation.specs.Rel.{none, pair, either, both, minus, inverse, identity, product, from, into, image, compose, plus, optional, star, diagonal, nodes}
-use Rattle.relation.specs.Bits.{bit, edge}
+-- `grid::then` meets its contract, row by row.
+use Rattle.relation.specs.Rel.{compose}
+use Rattle.relation.specs.Bits.{edge}
+use Rattle.relation.proofs.GridLaws.{mapped_start, mapped_more, mapped_all, image_out}
+use borrow.Author.Rules.{rules}
 use Rattle.relation.proofs.grid.then.Goals as goal
 
--- src/grid.rt:98:5
 pub loop-i-init : goal.loop-i-init
-loop-i-init c = ?
+loop-i-init c = mapped_start (search rules) (λ m h. image_out _ _)
 
--- src/grid.rt:98:5
 pub loop-i-preserved : goal.loop-i-preserved
-loop-i-preserved c = ?
+unfolding edge
+loop-i-preserved c = mapped_more c.loop-i.invariant c.loop-i-test.true _ c.image.ensures
 
--- src/grid.rt:94:1
 pub returns : goal.returns
-returns c = ?
+unfolding compose
+returns c = mapped_all c.loop-i.invariant c.loop-i-test.false

@@ -1,41 +1,29 @@
-use Rattle.std.proofs.Common.{rules, ◌≡◌, ◌≤◌, ℕ, ◌+◌, ◌-◌, ◌*◌, ◌<◌, length, ◌/◌, ◌%◌, Bool, true, false, nat_eq, nat_lt, List, [], ◌∷◌, ◌++◌, slice_index_or, slice_set, bit_and, bit_or, Fits, w8, w32, w64, Bor, MutBor, ℤ, pos, ◌+ℤ◌, ◌-ℤ◌, ◌*ℤ◌, ◌≤ℤ◌, ◌<ℤ◌, FitsSigned, to_z, of_z}
-use Rattle.arrayvec.specs.ArrayVec.{array_vec_len}
-use Rattle.relation.specs.Bits.{bit, edge}
-use Rattle.relation.specs.Order.{order}
+-- `order::order` meets its contract: what is out, followed by the order of what is left, is the order of all.
+use mathlib.Core.Path.{sym, ap, ◌∙◌}
+use native.Mathlib.Omega.{arith}
+use Rattle.relation.specs.Rel.{count}
+use Rattle.relation.proofs.OrderLaws.{order_inverse, out_none, out_next, out_more, out_all}
+use borrow.Author.Rules.{rules}
 use Rattle.relation.proofs.order.order.Goals as goal
 
--- src/order.rt:20:5
-pub loop-init : goal.loop-init
-loop-init c = ?
+pub loop-k-init : goal.loop-k-init
+loop-k-init c = out_none _ _ c.new-events.ensures
 
--- src/order.rt:23:13
-pub returns-in_default-clause-bounded : goal.returns-in_default-clause-bounded
-returns-in_default-clause-bounded c = ?
-
--- src/order.rt:23:13
-pub returns-in_default-clause-ordered : goal.returns-in_default-clause-ordered
-returns-in_default-clause-ordered c = ?
-
--- src/order.rt:25:21
 pub overflow_cast-k : goal.overflow_cast-k
-overflow_cast-k c = ?
+overflow_cast-k c = record { fits = omega (arith, (out_next c.loop-k.invariant (sym c.in-Some.ensures)).0) }
 
--- src/order.rt:25:9
 pub push-requires : goal.push-requires
-push-requires c = ?
+push-requires c = (search rules, omega (arith, c.loop-k.invariant.room, (out_next c.loop-k.invariant (sym c.in-Some.ensures)).1))
 
--- src/order.rt:26:13
-pub without-z-requires : goal.without-z-requires
-without-z-requires c = ?
+pub without-rest-requires : goal.without-rest-requires
+without-rest-requires c = (out_next c.loop-k.invariant (sym c.in-Some.ensures)).0
 
--- src/order.rt:20:5
-pub loop-preserved : goal.loop-preserved
-loop-preserved c = ?
+pub loop-k-smaller : goal.loop-k-smaller
+loop-k-smaller c =
+    omega (arith, ap (count 64) c.without-rest.ensures, (out_next c.loop-k.invariant (sym c.in-Some.ensures)).1)
 
--- src/order.rt:13:1
-pub returns-clause-bounded : goal.returns-clause-bounded
-returns-clause-bounded c = ?
+pub loop-k-preserved : goal.loop-k-preserved
+loop-k-preserved c = out_more c.loop-k.invariant (sym c.in-Some.ensures) _ c.without-rest.ensures c.push.ensures.items
 
--- src/order.rt:13:1
 pub returns-clause-ordered : goal.returns-clause-ordered
-returns-clause-ordered c = ?
+returns-clause-ordered c = out_all c.loop-k.invariant (sym c.in_default.ensures) ∙ order_inverse _ _ _ c.inverse-before.ensures

@@ -1,18 +1,19 @@
-use Rattle.std.proofs.Common.{rules, ◌≡◌, true, ℕ, ◌<◌, ◌≤◌, length, ◌+◌, ◌-◌, ◌*◌, ◌/◌, ◌%◌, Bool, false, nat_eq, nat_lt, List, [], ◌∷◌, ◌++◌, slice_index_or, slice_set, bit_and, bit_or, Fits, w8, w32, w64, Bor, MutBor}
-use Rattle.arrayvec.specs.ArrayVec.{array_vec_len}
+-- `ring::levels` meets its contract: each row is what one more step reaches.
+use native.Mathlib.Omega.{arith}
 use Rattle.relation.specs.Bits.{edge}
-use Rattle.relation.specs.Rel.{compose, nodes}
-use Rattle.relation.specs.Ring.{RingOrNone, power, ShortestOrNone, Levels, StepsBack, Way, Turned, SmallestAt}
+use Rattle.relation.proofs.GridLaws.{rows_none_of, rows_set}
+use Rattle.relation.proofs.RingLaws.{power_zero, power_suc}
+use borrow.Author.Rules.{rules}
 use Rattle.relation.proofs.ring.levels.Goals as goal
 
--- src/ring.rt:44:5
 pub loop-k-init : goal.loop-k-init
-loop-k-init c = ?
+loop-k-init c = (rows_none_of _ _ _ (search rules) c.empty-h.ensures, power_zero _ _ _ _ c.requires c.none.ensures c.with-x.ensures)
 
--- src/ring.rt:44:5
 pub loop-k-preserved : goal.loop-k-preserved
-loop-k-preserved c = ?
+loop-k-preserved c =
+    let inv = c.loop-k.invariant in
+    (rows_set _ _ _ _ _ inv.0 c.loop-k-test.true inv.1, power_suc _ _ _ _ _ inv.1 c.image-next.ensures)
 
--- src/ring.rt:38:1
 pub returns : goal.returns
-returns c = ?
+unfolding edge
+returns c = λ k h. c.loop-k.invariant.0.done k (omega (arith, c.loop-k-test.false))

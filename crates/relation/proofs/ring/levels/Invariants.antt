@@ -1,9 +1,10 @@
-use Rattle.std.proofs.Common.{◌≡◌, true, ℕ, ◌<◌, ◌≤◌, length, ◌+◌, ◌-◌, ◌*◌}
-use Rattle.arrayvec.specs.ArrayVec.{array_vec_len}
-use Rattle.relation.specs.Bits.{edge}
-use Rattle.relation.specs.Rel.{compose, nodes}
-use Rattle.relation.specs.Ring.{RingOrNone, power, ShortestOrNone, Levels, StepsBack, Way, Turned, SmallestAt}
+-- `ring::levels` meets its contract: each row is what one more step reaches.
+use mathlib.Core.Path.{◌≡◌}
+use Rattle.relation.specs.Rel.{none}
+use Rattle.relation.specs.Bits.{bit, edge}
+use Rattle.relation.specs.Ring.{power}
+use Rattle.relation.proofs.GridLaws.{Rows}
 use Rattle.relation.proofs.ring.levels.Given as goal
 
 abbrev pub invariant-loop-k : goal.invariant-loop-k
-invariant-loop-k l = ?
+invariant-loop-k l = Rows (λ m. power m (edge l.g) l.s) none l.h l.k × (bit l.x ≡ power l.k (edge l.g) l.s)

@@ -1,14 +1,13 @@
-use Rattle.std.proofs.Common.{rules, ◌≡◌, true, ℕ, ◌<◌, ◌≤◌, length, ◌+◌, ◌-◌, ◌*◌, ◌/◌, ◌%◌, Bool, false, nat_eq, nat_lt, List, [], ◌∷◌, ◌++◌, slice_index_or, slice_set, bit_and, bit_or, Fits, w8, w32, w64, Bor, MutBor}
-use Rattle.arrayvec.specs.ArrayVec.{array_vec_len}
-use Rattle.relation.specs.Bits.{edge}
-use Rattle.relation.specs.Rel.{compose, nodes}
-use Rattle.relation.specs.Ring.{RingOrNone, power, ShortestOrNone, Levels, StepsBack, Way, Turned, SmallestAt}
+-- `ring::ring` meets its contract: no way is closed, or the shortest one comes round.
+use Rattle.relation.proofs.Walks.{edge_inside}
+use Rattle.relation.proofs.RingLaws.{ring_none, ring_some}
+use borrow.Author.Rules.{rules}
 use Rattle.relation.proofs.ring.ring.Goals as goal
 
--- src/ring.rt:113:9
 pub returns-in_default-clause-ring : goal.returns-in_default-clause-ring
-returns-in_default-clause-ring c = ?
+returns-in_default-clause-ring c =
+    ring_none (edge_inside _ (search rules)) (edge_inside _ (search rules)) c.in_default.ensures.none c.new.ensures
 
--- src/ring.rt:108:1
 pub returns-clause-ring : goal.returns-clause-ring
-returns-clause-ring c = ?
+returns-clause-ring c =
+    ring_some (edge_inside _ (search rules)) (edge_inside _ (search rules)) c.in-Some.ensures.found c.way.ensures c.turned.ensures

@@ -1,22 +1,21 @@
-use Rattle.std.proofs.Common.{rules, ◌≡◌, true, ℕ, ◌<◌, ◌≤◌, length, ◌+◌, ◌-◌, ◌*◌, ◌/◌, ◌%◌, Bool, false, nat_eq, nat_lt, List, [], ◌∷◌, ◌++◌, slice_index_or, slice_set, bit_and, bit_or, Fits, w8, w32, w64, Bor, MutBor}
-use Rattle.arrayvec.specs.ArrayVec.{array_vec_len}
-use Rattle.relation.specs.Bits.{edge}
-use Rattle.relation.specs.Rel.{compose, nodes}
-use Rattle.relation.specs.Ring.{RingOrNone, power, ShortestOrNone, Levels, StepsBack, Way, Turned, SmallestAt}
+-- `ring::shortest` meets its contract: fewer steps are tried first.
+use mathlib.Core.Path.{sym}
+use borrow.Author.Count.{below_none}
+use Rattle.relation.proofs.ByteLaws.{bit_out}
+use Rattle.relation.proofs.RingLaws.{power_identity, power_then, round_found, round_none}
 use Rattle.relation.proofs.ring.shortest.Goals as goal
 
--- src/ring.rt:27:5
 pub loop-steps-init : goal.loop-steps-init
-loop-steps-init c = ?
+loop-steps-init c = (power_identity _ _ _ c.all.ensures c.identity-p.ensures, below_none _)
 
--- src/ring.rt:29:13
-pub returns-in-Some : goal.returns-in-Some
-returns-in-Some c = ?
-
--- src/ring.rt:27:5
 pub loop-steps-preserved : goal.loop-steps-preserved
-loop-steps-preserved c = ?
+loop-steps-preserved c =
+    let inv = c.loop-steps.invariant in (
+      power_then _ _ _ _ inv.0 c.then-next.ensures,
+      round_none _ _ _ _ _ _ c.inverse-back.ensures inv.0 c.returning.ensures (bit_out _) (sym c.in_default.ensures) inv.1,
+    )
 
--- src/ring.rt:22:1
-pub returns : goal.returns
-returns c = ?
+pub returns-in-Some-clause-found : goal.returns-in-Some-clause-found
+returns-in-Some-clause-found c =
+    let inv = c.loop-steps.invariant in
+    round_found _ _ _ _ _ _ c.inverse-back.ensures inv.0 c.returning.ensures (sym c.in-Some.ensures) c.loop-steps-test.true inv.1

@@ -1,22 +1,20 @@
-use Rattle.std.proofs.Common.{rules, ◌≡◌, true, ℕ, ◌<◌, ◌≤◌, length, ◌+◌, ◌-◌, ◌*◌, ◌/◌, ◌%◌, Bool, false, nat_eq, nat_lt, List, [], ◌∷◌, ◌++◌, slice_index_or, slice_set, bit_and, bit_or, Fits, w8, w32, w64, Bor, MutBor}
-use Rattle.arrayvec.specs.ArrayVec.{array_vec_len}
-use Rattle.relation.specs.Bits.{edge}
-use Rattle.relation.specs.Rel.{compose, nodes}
-use Rattle.relation.specs.Ring.{RingOrNone, power, ShortestOrNone, Levels, StepsBack, Way, Turned, SmallestAt}
+-- `ring::smallest_at` meets its contract.
+use native.Mathlib.Omega.{arith}
+use Rattle.relation.proofs.RingLaws.{smallest_one, smallest_new, smallest_old, smallest_done}
 use Rattle.relation.proofs.ring.smallest_at.Goals as goal
 
--- src/ring.rt:83:5
 pub loop-k-init : goal.loop-k-init
-loop-k-init c = ?
+loop-k-init c = smallest_one _
 
--- src/ring.rt:84:21
-pub bounds-way-m : goal.bounds-way-m
-bounds-way-m c = ?
+pub bounds-events-m : goal.bounds-events-m
+bounds-events-m c = omega (arith, c.loop-k.invariant.inside)
 
--- src/ring.rt:83:5
 pub loop-k-preserved : goal.loop-k-preserved
-loop-k-preserved c = ?
+loop-k-preserved c =
+    elim c.if-events-k.branch [
+      | goal.then-events-k w ↦ rw w.m-is (smallest_new _ _ _ c.loop-k.invariant w.if-events-k.true)
+      | goal.else-events-k w ↦ rw w.m-is (smallest_old _ _ _ c.loop-k.invariant w.if-events-k.false)
+    ]
 
--- src/ring.rt:78:1
 pub returns : goal.returns
-returns c = ?
+returns c = smallest_done _ _ _ _ (omega arith) c.loop-k.invariant

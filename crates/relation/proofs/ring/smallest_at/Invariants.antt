@@ -1,9 +1,6 @@
-use Rattle.std.proofs.Common.{◌≡◌, true, ℕ, ◌<◌, ◌≤◌, length, ◌+◌, ◌-◌, ◌*◌}
-use Rattle.arrayvec.specs.ArrayVec.{array_vec_len}
-use Rattle.relation.specs.Bits.{edge}
-use Rattle.relation.specs.Rel.{compose, nodes}
-use Rattle.relation.specs.Ring.{RingOrNone, power, ShortestOrNone, Levels, StepsBack, Way, Turned, SmallestAt}
+-- `ring::smallest_at` meets its contract.
+use Rattle.relation.specs.Ring.{SmallestAt}
 use Rattle.relation.proofs.ring.smallest_at.Given as goal
 
 abbrev pub invariant-loop-k : goal.invariant-loop-k
-invariant-loop-k l = ?
+invariant-loop-k l = SmallestAt l.events l.k l.m

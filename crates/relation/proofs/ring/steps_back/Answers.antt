@@ -1,34 +1,32 @@
-use Rattle.std.proofs.Common.{rules, ◌≡◌, true, ℕ, ◌<◌, ◌≤◌, length, ◌+◌, ◌-◌, ◌*◌, ◌/◌, ◌%◌, Bool, false, nat_eq, nat_lt, List, [], ◌∷◌, ◌++◌, slice_index_or, slice_set, bit_and, bit_or, Fits, w8, w32, w64, Bor, MutBor}
-use Rattle.arrayvec.specs.ArrayVec.{array_vec_len}
+-- `ring::steps_back` meets its contract: each event but the last leads to the one after it.
+use mathlib.Core.Path.{◌≡◌, ap, ◌∙◌}
+use mathlib.Core.List.{List, [], ◌∷◌, ◌++◌, reverse}
+use Prim.Native.Nat.{ℕ, ◌-◌}
+use Rattle.std.specs.Prelude.{Some}
+use native.Mathlib.Omega.{arith}
+use Rattle.relation.specs.Rel.{inverse}
 use Rattle.relation.specs.Bits.{edge}
-use Rattle.relation.specs.Rel.{compose, nodes}
-use Rattle.relation.specs.Ring.{RingOrNone, power, ShortestOrNone, Levels, StepsBack, Way, Turned, SmallestAt}
+use Rattle.relation.proofs.RingLaws.{Picked, picked_some, picked_first, back_start, back_reached, back_more, back_all}
 use Rattle.relation.proofs.ring.steps_back.Goals as goal
 
--- src/ring.rt:60:5
+-- The event before y.
+before : (c : goal.After-first) {k : ℕ} → c.first.result ≡ Some k → Picked (edge c.args.h (c.loop-k.k - 1)) (inverse (edge c.args.b)) c.loop-k.y k
+unfolding edge inverse
+before c e = picked_first _ _ _ _ (back_reached c.loop-k.invariant (omega arith) c.requires.0 c.requires.3) c.and.ensures c.first.ensures e
+
 pub loop-k-init : goal.loop-k-init
-loop-k-init c = ?
+loop-k-init c = back_start (c.push.ensures.items ∙ ap (λ (l : List ℕ). l ++ c.args.x ∷ []) c.new-events.ensures) c.requires.1 c.requires.2
 
--- src/ring.rt:61:39
-pub offset_bounds-b-y : goal.offset_bounds-b-y
-offset_bounds-b-y c = ?
-
--- src/ring.rt:61:39
-pub bounds-b-y : goal.bounds-b-y
-bounds-b-y c = ?
-
--- src/ring.rt:61:9
 pub unwrap-y-requires : goal.unwrap-y-requires
-unwrap-y-requires c = ?
+unfolding edge inverse
+unwrap-y-requires c =
+    picked_some _ _ _ _ (back_reached c.loop-k.invariant (omega arith) c.requires.0 c.requires.3) c.and.ensures c.first.ensures
 
--- src/ring.rt:62:17
-pub overflow_cast-at-in-loop-k : goal.overflow_cast-at-in-loop-k
-overflow_cast-at-in-loop-k c = ?
+pub overflow_cast-y : goal.overflow_cast-y
+overflow_cast-y c = record { fits = omega (arith, (before c.before.before c.unwrap-y.ensures).inside) }
 
--- src/ring.rt:60:5
 pub loop-k-preserved : goal.loop-k-preserved
-loop-k-preserved c = ?
+loop-k-preserved c = back_more c.loop-k.invariant (omega arith) c.push-in-loop-k.ensures.items (before c.before.before.before c.unwrap-y.ensures)
 
--- src/ring.rt:53:1
 pub returns : goal.returns
-returns c = ?
+returns c = back_all c.loop-k.invariant c.loop-k-test.false (c.reverse.ensures.after ∙ ap reverse c.deref_mut.ensures.value)

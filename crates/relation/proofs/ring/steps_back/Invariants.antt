@@ -1,9 +1,7 @@
-use Rattle.std.proofs.Common.{◌≡◌, true, ℕ, ◌<◌, ◌≤◌, length, ◌+◌, ◌-◌, ◌*◌}
-use Rattle.arrayvec.specs.ArrayVec.{array_vec_len}
+-- `ring::steps_back` meets its contract: each event but the last leads to the one after it.
 use Rattle.relation.specs.Bits.{edge}
-use Rattle.relation.specs.Rel.{compose, nodes}
-use Rattle.relation.specs.Ring.{RingOrNone, power, ShortestOrNone, Levels, StepsBack, Way, Turned, SmallestAt}
+use Rattle.relation.proofs.RingLaws.{Back}
 use Rattle.relation.proofs.ring.steps_back.Given as goal
 
 abbrev pub invariant-loop-k : goal.invariant-loop-k
-invariant-loop-k l = ?
+invariant-loop-k l = Back (edge l.h) (edge l.b) l.n l.x l.k l.y l.events.items

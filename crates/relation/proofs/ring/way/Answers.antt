@@ -1,18 +1,32 @@
-use Rattle.std.proofs.Common.{rules, ◌≡◌, true, ℕ, ◌<◌, ◌≤◌, length, ◌+◌, ◌-◌, ◌*◌, ◌/◌, ◌%◌, Bool, false, nat_eq, nat_lt, List, [], ◌∷◌, ◌++◌, slice_index_or, slice_set, bit_and, bit_or, Fits, w8, w32, w64, Bor, MutBor}
-use Rattle.arrayvec.specs.ArrayVec.{array_vec_len}
+-- `ring::way` meets its contract: it ends where e closes it.
+use mathlib.Core.Path.{◌≡◌, ap, ◌∙◌}
+use Prim.Native.Nat.{ℕ}
+use Rattle.std.specs.Prelude.{Some}
+use Rattle.relation.specs.Rel.{intersection}
 use Rattle.relation.specs.Bits.{edge}
-use Rattle.relation.specs.Rel.{compose, nodes}
-use Rattle.relation.specs.Ring.{RingOrNone, power, ShortestOrNone, Levels, StepsBack, Way, Turned, SmallestAt}
+use Rattle.relation.proofs.RingLaws.{Picked, picked_some, picked_first, closing_reached, levels_lead, way_of_steps}
 use Rattle.relation.proofs.ring.way.Goals as goal
 
--- src/ring.rt:73:9
+-- The way's last event.
+last : (c : goal.After-first) {k : ℕ} → c.first.result ≡ Some k → Picked (edge c.levels-h.result c.args.n) (edge c.args.e) c.args.s k
+unfolding edge
+last c e =
+    let pre = c.requires in
+    picked_first _ _ _ _ (closing_reached _ _ _ pre.1 c.levels-h.ensures pre.2) (c.and.ensures ∙ ap (intersection _) c.column.ensures)
+    c.first.ensures e
+
 pub unwrap-x-requires : goal.unwrap-x-requires
-unwrap-x-requires c = ?
+unfolding edge
+unwrap-x-requires c =
+    let pre = c.requires in
+    picked_some _ _ _ _ (closing_reached _ _ _ pre.1 c.levels-h.ensures pre.2) (c.and.ensures ∙ ap (intersection _) c.column.ensures)
+    c.first.ensures
 
--- src/ring.rt:74:5
 pub steps_back-requires : goal.steps_back-requires
-steps_back-requires c = ?
+steps_back-requires c =
+    let x = last c.before.before c.unwrap-x.ensures in
+    (c.requires.1, x.inside, x.member, levels_lead _ _ _ _ c.levels-h.ensures c.inverse.ensures)
 
--- src/ring.rt:68:1
 pub returns : goal.returns
-returns c = ?
+returns c =
+    way_of_steps c.requires.1 c.levels-h.ensures c.inverse.ensures (last c.before.before.before c.unwrap-x.ensures).leads c.steps_back.ensures

@@ -1,13 +1,20 @@
-use Rattle.std.proofs.Common.{rules, ◌≡◌, not, ◌<◌, ◌≤◌, ℕ, ◌+◌, ◌-◌, ◌*◌, length, ◌/◌, ◌%◌, Bool, true, false, nat_eq, nat_lt, List, [], ◌∷◌, ◌++◌, slice_index_or, slice_set, bit_and, bit_or, Fits, w8, w32, w64, Bor, MutBor}
-use Rattle.relation.specs.Rel.{empty, single, given, union, intersection, difference, smallest, some, nodes, count}
-use Rattle.relation.specs.Bits.{on, bit, byte_or}
-use Rattle.relation.specs.Ring.{under}
+-- `row::first` meets its contract: the zeros below the lowest set bit, where a bit is set.
+use mathlib.Core.Path.{ap, sym, ◌∙◌}
+use native.Mathlib.Omega.{arith}
+use mir.Syntax.{w64}
+use mir.Val.{Fits}
+use Rattle.relation.specs.Rel.{smallest}
+use Rattle.relation.proofs.WordLaws.{trailing_fits, smallest_on, none_on}
+use borrow.Author.Rules.{rules}
 use Rattle.relation.proofs.row.first.Goals as goal
 
--- src/row.rt:136:9
 pub returns-then-w-eq0 : goal.returns-then-w-eq0
-returns-then-w-eq0 c = ?
+returns-then-w-eq0 c = sym (ap smallest c.word-w.ensures ∙ none_on _ c.if-w-eq0.true)
 
--- src/row.rt:131:1
+pub overflow_cast-result : goal.overflow_cast-result
+overflow_cast-result c = record { fits = omega (arith, trailing_fits c.word-w.result) }
+
 pub returns : goal.returns
-returns c = ?
+returns c =
+    let f : Fits w64 c.word-w.result = search rules in
+    smallest_on _ c.if-w-eq0.false f.fits ∙ ap smallest (sym c.word-w.ensures)

@@ -1,9 +1,14 @@
-use Rattle.std.proofs.Common.{rules, ◌≡◌, not, ◌<◌, ◌≤◌, ℕ, ◌+◌, ◌-◌, ◌*◌, length, ◌/◌, ◌%◌, Bool, true, false, nat_eq, nat_lt, List, [], ◌∷◌, ◌++◌, slice_index_or, slice_set, bit_and, bit_or, Fits, w8, w32, w64, Bor, MutBor}
-use Rattle.relation.specs.Rel.{empty, single, given, union, intersection, difference, smallest, some, nodes, count}
-use Rattle.relation.specs.Bits.{on, bit, byte_or}
-use Rattle.relation.specs.Ring.{under}
+-- `row::is_empty` meets its contract: no bit is set.
+use mathlib.Core.Path.{ap, sym, ◌∙◌}
+use mathlib.Core.Bool.{not}
+use mir.Syntax.{w64}
+use mir.Val.{Fits}
+use Rattle.relation.specs.Rel.{Set, some, nodes}
+use Rattle.relation.proofs.WordLaws.{empty_on}
+use borrow.Author.Rules.{rules}
 use Rattle.relation.proofs.row.is_empty.Goals as goal
 
--- src/row.rt:142:1
 pub returns : goal.returns
-returns c = ?
+returns c =
+    let f : Fits w64 c.word.result = search rules in
+    empty_on _ f.fits ∙ ap (λ (s : Set). not (some nodes s)) (sym c.word.ensures)

@@ -1,9 +1,22 @@
-use Rattle.std.proofs.Common.{rules, ◌≡◌, not, ◌<◌, ◌≤◌, ℕ, ◌+◌, ◌-◌, ◌*◌, length, ◌/◌, ◌%◌, Bool, true, false, nat_eq, nat_lt, List, [], ◌∷◌, ◌++◌, slice_index_or, slice_set, bit_and, bit_or, Fits, w8, w32, w64, Bor, MutBor}
-use Rattle.relation.specs.Rel.{empty, single, given, union, intersection, difference, smallest, some, nodes, count}
-use Rattle.relation.specs.Bits.{on, bit, byte_or}
-use Rattle.relation.specs.Ring.{under}
+-- `next` of the members of a set gives the lowest set bit and clears it.
+use mathlib.Core.Path.{ap}
+use native.Mathlib.Omega.{arith}
+use lib.ListN.{length}
+use mir.Syntax.{w64}
+use mir.Val.{Fits}
+use Rattle.relation.proofs.WordLaws.{members_on, members_on_none, lowest_inside}
+use borrow.Author.Rules.{rules}
 use Rattle.relation.proofs.row.MemberIterIterator.next.Goals as goal
 
--- src/row.rt:171:21
-pub without-self-requires : goal.without-self-requires
-without-self-requires c = ?
+pub returns-then-w-eq0-clause-steps : goal.returns-then-w-eq0-clause-steps
+returns-then-w-eq0-clause-steps c = let e = members_on_none _ c.if-w-eq0.true in ((e, e), search rules)
+
+pub returns-clause-steps : goal.returns-clause-steps
+returns-clause-steps c =
+    let f : Fits w64 c.args.self.now.rest = search rules in (members_on _ c.if-w-eq0.false f.fits, lowest_inside _ c.if-w-eq0.false f.fits)
+
+pub returns-clause-goes : goal.returns-clause-goes
+returns-clause-goes c =
+    let f : Fits w64 c.args.self.now.rest = search rules in
+    let fewer = ap length (members_on _ c.if-w-eq0.false f.fits) in
+    record { on = λ h. (search rules, search rules, omega (arith, fewer)); keeps = search rules; rests = search rules }
