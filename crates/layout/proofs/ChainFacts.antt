@@ -32,7 +32,7 @@ unfolding among
 among_append x [] l = refl
 among_append x (y ∷ k) l = ap (λ (b : Bool). eqb x y || b) (among_append x k l) ∙ sym (or_assoc (eqb x y) (among x k) (among x l))
 
-among_at : (l : List ℕ) (i : ℕ) → i < length l → among (get_or l i 0) l ≡ true
+pub among_at : (l : List ℕ) (i : ℕ) → i < length l → among (get_or l i 0) l ≡ true
 among_at [] i h = absurd (omega arith)
 among_at (x ∷ l) zero h = among_here x x l refl
 among_at (x ∷ l) (suc i) h = among_there (get_or l i 0) x l (among_at l i (omega arith))

@@ -1,16 +1,18 @@
 -- Laws of chains: the walk with marks answers what the definitions say.
 use mathlib.Core.Path.{◌≡◌, refl, sym, ap, ap₂, subst, ◌∙◌}
-use mathlib.Core.Bool.{Bool, true, false, not, ◌&&◌, ◌||◌, false≢true, or-false, and_assoc, or_assoc, or_comm}
+use mathlib.Core.Bool.{Bool, true, false, not, ◌&&◌, ◌||◌, false≢true, or-false, and-true, and_assoc, or_assoc, or_comm}
 use mathlib.Core.List.{List, [], ◌∷◌, ◌++◌}
 use Prim.Native.Nat.{ℕ, zero, suc, ◌+◌, ◌-◌, ◌<◌, ◌≤◌}
+use Rattle.std.specs.List.{list_all}
+use Rattle.std.proofs.lemmas.List.{take_more, get_or-drop}
+use Rattle.std.proofs.lemmas.List.Folds.{list_all-append}
 use native.Mathlib.Numerals.{add-one}
 use native.Mathlib.Omega.{arith}
 use native.Mathlib.Decide.{ℕ_discrete}
 use borrow.Author.Tests.{eq-eqb, ne_eqb, le-leb, lt-leb}
 use lib.Dec.{eqb, leb}
-use lib.ListN.{length, get_or, set, replicate, length-set}
+use lib.ListN.{length, get_or, set, replicate, take, drop, length-set, length-drop, get_or-replicate}
 use lib.Seq.{get_or-set_same, get_or-set_other}
-use Rattle.relation.proofs.ByteLaws.{zero_at}
 use Rattle.relation.proofs.Truth.{is_false, and_left, and_right}
 use Rattle.layout.specs.Chains.{among, follow, chain, met, fresh, each, all_met, once_each, pushed, Marked, Followed}
 
@@ -34,40 +36,33 @@ unfolding follow
 follow_in limit next n x d h = rw (ne_eqb x 0 d, follow) (rw (le-leb x limit h))
 
 -- Marks.
-pub marked_none : Marked [] (replicate 256 0)
+pub marked_none : Marked [] (replicate 256 false)
 unfolding among
-marked_none = record { long = refl; each = λ x h. ap (λ (n : ℕ). eqb n 1) (zero_at 256 x) }
+marked_none = record { long = refl; each = λ x h. get_or-replicate 256 x false false h }
 
-pub marked_more : (l at : List ℕ) (x : ℕ) → x < 256 → Marked l at → Marked (x ∷ l) (set at x 1)
+pub marked_more : (l : List ℕ) (at : List Bool) (x : ℕ) → x < 256 → Marked l at → Marked (x ∷ l) (set at x true)
 unfolding among
 marked_more l at x h w =
     record {
-      long = length-set at x 1 ∙ w.long;
+      long = length-set at x true ∙ w.long;
       each = λ y g. elim (ℕ_discrete y x) [
-        | yes e ↦ ap (λ (n : ℕ). eqb n 1) (ap (λ (k : ℕ). get_or (set at x 1) k 0) e ∙ get_or-set_same at x 1 0 (omega (arith, w.long)))
+        | yes e ↦ ap (λ (k : ℕ). get_or (set at x true) k false) e ∙ get_or-set_same at x true false (omega (arith, w.long))
             ∙ ap (λ (b : Bool). b || among y l) (sym (eq-eqb y x e))
-        | no d ↦ ap (λ (n : ℕ). eqb n 1) (get_or-set_other at x y 1 0 d) ∙ w.each y g
-            ∙ ap (λ (b : Bool). b || among y l) (sym (ne_eqb y x d))
+        | no d ↦ get_or-set_other at x y true false d ∙ w.each y g ∙ ap (λ (b : Bool). b || among y l) (sym (ne_eqb y x d))
       ];
     }
 
-pub marked_is : (l at : List ℕ) (x : ℕ) → x < 256 → Marked l at → get_or at x 0 ≡ 1 → among x l ≡ true
-marked_is l at x h w e = sym (w.each x h) ∙ eq-eqb (get_or at x 0) 1 e
-
-pub marked_not : (l at : List ℕ) (x : ℕ) → x < 256 → Marked l at → (get_or at x 0 ≡ 1 → ⊥) → among x l ≡ false
-marked_not l at x h w d = sym (w.each x h) ∙ ne_eqb (get_or at x 0) 1 d
-
 -- A chain followed in part: what is left of it decides what the whole does.
-pub record Going (limit : ℕ) (next : ℕ → ℕ) (l whole : List ℕ) (n x : ℕ) (at : List ℕ) : Type 0 where
+pub record Going (limit : ℕ) (next : ℕ → ℕ) (l whole : List ℕ) (n x : ℕ) (at : List Bool) : Type 0 where
   pub seen : List ℕ
   pub marked : Marked seen at
   pub same : fresh limit l whole ≡ fresh limit seen (follow limit next n x)
   pub rest : pushed whole l ≡ pushed (follow limit next n x) seen
 
-pub going_start : (limit : ℕ) (next : ℕ → ℕ) (l : List ℕ) (x : ℕ) (at : List ℕ) → Marked l at → Going limit next l (chain limit next x) (limit + 1) x at
+pub going_start : (limit : ℕ) (next : ℕ → ℕ) (l : List ℕ) (x : ℕ) (at : List Bool) → Marked l at → Going limit next l (chain limit next x) (limit + 1) x at
 going_start limit next l x at w = rw (add-one limit) (record { seen = l; marked = w; same = refl; rest = refl })
 
-module _ {limit : ℕ} {next : ℕ → ℕ} {l whole : List ℕ} {n x : ℕ} {at : List ℕ} (w : Going limit next l whole n x at) where
+module _ {limit : ℕ} {next : ℕ → ℕ} {l whole : List ℕ} {n x : ℕ} {at : List Bool} (w : Going limit next l whole n x at) where
   pub going_done : follow limit next n x ≡ [] → Followed limit l whole true at
   unfolding fresh pushed
   going_done e =
@@ -84,14 +79,14 @@ module _ {limit : ℕ} {next : ℕ → ℕ} {l whole : List ℕ} {n x : ℕ} {at
   going_over m e d h =
       fails (x ∷ []) (ap (λ (k : ℕ). follow limit next k x) e ∙ follow_over limit next m x d h) (rw (lt-leb x limit h))
 
-  pub going_twice : (m : ℕ) → n ≡ suc m → (x ≡ 0 → ⊥) → x ≤ limit → x < 256 → get_or at x 0 ≡ 1 → Followed limit l whole false at
+  pub going_twice : (m : ℕ) → n ≡ suc m → (x ≡ 0 → ⊥) → x ≤ limit → x < 256 → get_or at x false ≡ true → Followed limit l whole false at
   unfolding fresh
   going_twice m e d h g p =
       fails (x ∷ follow limit next m (next x)) (ap (λ (k : ℕ). follow limit next k x) e ∙ follow_in limit next m x d h)
-      (rw (le-leb x limit h, marked_is w.seen at x g w.marked p))
+      (rw (le-leb x limit h, sym (w.marked.each x g) ∙ p))
 
-  pub going_on : (m y : ℕ) → n ≡ suc m → (x ≡ 0 → ⊥) → x ≤ limit → x < 256 → (get_or at x 0 ≡ 1 → ⊥) → y ≡ next x
-      → Going limit next l whole m y (set at x 1)
+  pub going_on : (m y : ℕ) → n ≡ suc m → (x ≡ 0 → ⊥) → x ≤ limit → x < 256 → get_or at x false ≡ false → y ≡ next x
+      → Going limit next l whole m y (set at x true)
   unfolding fresh pushed
   going_on m y e d h g p q =
       let step : follow limit next n x ≡ x ∷ follow limit next m y
@@ -101,7 +96,7 @@ module _ {limit : ℕ} {next : ℕ → ℕ} {l whole : List ℕ} {n x : ℕ} {at
         seen = x ∷ w.seen;
         marked = marked_more w.seen at x g w.marked;
         same = w.same ∙ ap (fresh limit w.seen) step
-            ∙ ap (λ (b : Bool). b && fresh limit (x ∷ w.seen) (follow limit next m y)) (tests (le-leb x limit h) (marked_not w.seen at x g w.marked p));
+            ∙ ap (λ (b : Bool). b && fresh limit (x ∷ w.seen) (follow limit next m y)) (tests (le-leb x limit h) (sym (w.marked.each x g) ∙ p));
         rest = w.rest ∙ ap (λ (c : List ℕ). pushed c w.seen) step;
       }
     where
@@ -163,6 +158,12 @@ unfolding each
 each_same zero p q e = refl
 each_same (suc n) p q e = ap₂ ◌&&◌ (each_same n p q e) (e (suc n))
 
+-- The same where the tests agree on these numbers.
+each_below : (n : ℕ) (p q : ℕ → Bool) → ((x : ℕ) → x ≤ n → p x ≡ q x) → each n p ≡ each n q
+unfolding each
+each_below zero p q e = refl
+each_below (suc n) p q e = ap₂ ◌&&◌ (each_below n p q (λ x h. e x (omega arith))) (e (suc n) (omega arith))
+
 pub each_at : (n : ℕ) (p : ℕ → Bool) → each n p ≡ true → (k : ℕ) → 1 ≤ k → k ≤ n → p k ≡ true
 unfolding each
 each_at zero p a k h g = absurd (omega arith)
@@ -171,6 +172,21 @@ each_at (suc n) p a k h g =
       | yes e ↦ ap p e ∙ and_right (each n p) (p (suc n)) a
       | no d ↦ each_at n p (and_left (each n p) (p (suc n)) a) k h (omega (arith, d))
     ]
+
+-- Whether the marks of the numbers from 1 to n are all true.
+marks_each : (n : ℕ) (at : List Bool) → n < length at → list_all (λ b. b) (take n (drop 1 at)) ≡ each n (λ x. get_or at x false)
+unfolding each
+marks_each zero at h = refl
+marks_each (suc n) at h =
+    ap (λ (k : ℕ). list_all (λ b. b) (take k (drop 1 at))) (sym (add-one n))
+    ∙ ap (list_all (λ b. b)) (take_more (drop 1 at) n false (omega (arith, h, length-drop 1 at)))
+    ∙ list_all-append (λ b. b) (take n (drop 1 at)) (get_or (drop 1 at) n false ∷ [])
+    ∙ ap₂ ◌&&◌ (marks_each n at (omega arith)) (and-true (get_or (drop 1 at) n false) ∙ get_or-drop 1 at n false ∙ ap (λ (k : ℕ). get_or at k false) (omega arith))
+
+pub marked_each : (l : List ℕ) (at : List Bool) (limit n : ℕ) → limit < 256 → Marked l at → n ≡ limit → list_all (λ b. b) (take n (drop 1 at)) ≡ all_met limit l
+marked_each l at limit n h w e =
+    ap (λ (k : ℕ). list_all (λ b. b) (take k (drop 1 at))) e ∙ marks_each limit at (omega (arith, w.long))
+    ∙ each_below limit (λ x. get_or at x false) (λ x. among x l) (λ x g. w.each x (omega arith))
 
 -- Chains on which together nothing is met twice: so are the first of them, and each behind those before it.
 module _ (limit : ℕ) (next start : ℕ → ℕ) where
@@ -191,16 +207,16 @@ module _ (limit : ℕ) (next start : ℕ → ℕ) where
       and_right (fresh limit [] (met limit next start j)) _ both
 
 -- After j chains: all sound so far, and what they met is marked.
-pub record Walked (limit : ℕ) (next start : ℕ → ℕ) (j : ℕ) (marks : List ℕ) : Type 0 where
+pub record Walked (limit : ℕ) (next start : ℕ → ℕ) (j : ℕ) (marks : List Bool) : Type 0 where
   pub sound : fresh limit [] (met limit next start j) ≡ true
   pub marked : Marked (pushed (met limit next start j) []) marks
 
-pub walked_none : (limit : ℕ) (next start : ℕ → ℕ) → Walked limit next start 0 (replicate 256 0)
+pub walked_none : (limit : ℕ) (next start : ℕ → ℕ) → Walked limit next start 0 (replicate 256 false)
 unfolding met fresh pushed
 walked_none limit next start = record { sound = refl; marked = marked_none }
 
 -- One chain more, from x, which is start j.
-module _ {limit : ℕ} {next start : ℕ → ℕ} {j x : ℕ} {marks : List ℕ} {sound : Bool} {at : List ℕ} (e : x ≡ start j) (w : Walked limit next start j marks)
+module _ {limit : ℕ} {next start : ℕ → ℕ} {j x : ℕ} {marks : List Bool} {sound : Bool} {at : List Bool} (e : x ≡ start j) (w : Walked limit next start j marks)
     (g : (l : List ℕ) → Marked l marks → Followed limit l (chain limit next x) sound at) where
   followed : Followed limit (pushed (met limit next start j) []) (chain limit next (start j)) sound at
   followed = subst (λ (y : ℕ). Followed limit (pushed (met limit next start j) []) (chain limit next y) sound at) e (g _ w.marked)
@@ -225,7 +241,7 @@ module _ {limit : ℕ} {next start : ℕ → ℕ} {j x : ℕ} {marks : List ℕ}
       (λ q. false≢true (sym (step ∙ p) ∙ fresh_upto limit next start n (j + 1) (omega arith) q)) in
       sym (ap (λ (b : Bool). b && all_met limit (met limit next start n)) unsound)
 
-pub walked_all : {limit : ℕ} {next start : ℕ → ℕ} {n k : ℕ} {marks : List ℕ} {b : Bool} → k ≡ n → Walked limit next start k marks
+pub walked_all : {limit : ℕ} {next start : ℕ → ℕ} {n k : ℕ} {marks : List Bool} {b : Bool} → k ≡ n → Walked limit next start k marks
     → ((l : List ℕ) → Marked l marks → b ≡ all_met limit l) → b ≡ once_each limit (met limit next start n)
 unfolding once_each among
 walked_all {limit} {next} {start} {n} {k} {marks} e v f =

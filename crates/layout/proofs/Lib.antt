@@ -2,4 +2,3 @@
 pub mod FieldLaws
 pub mod ChainLaws
 pub mod ChainFacts
-pub mod EachLaws

@@ -93,10 +93,10 @@ pub record Linked (f : List ℕ) (first step count from size limit : ℕ) : Type
   pub records : (x : ℕ) → 1 ≤ x → x ≤ limit → from + size * (x - 1) < length f
   pub small : limit < 256
 
--- The numbers below 256 that are marked with 1 are those of the list.
-pub record Marked (l marks : List ℕ) : Type 0 where
+-- The marked numbers below 256 are those of the list.
+pub record Marked (l : List ℕ) (marks : List Bool) : Type 0 where
   pub long : length marks ≡ 256
-  pub each : (x : ℕ) → x < 256 → eqb (get_or marks x 0) 1 ≡ among x l
+  pub each : (x : ℕ) → x < 256 → get_or marks x false ≡ among x l
 
 -- The list with those of a chain put before it, the last met first.
 unfoldable pub pushed : List ℕ → List ℕ → List ℕ
@@ -104,6 +104,6 @@ pushed [] l = l
 pushed (x ∷ xs) l = pushed xs (x ∷ l)
 
 -- After a chain: whether it was sound where those of l had been met before, and if so the marks.
-pub record Followed (limit : ℕ) (l chain : List ℕ) (sound : Bool) (marks : List ℕ) : Type 0 where
+pub record Followed (limit : ℕ) (l chain : List ℕ) (sound : Bool) (marks : List Bool) : Type 0 where
   pub answer : sound ≡ fresh limit l chain
   pub marked : sound ≡ true → Marked (pushed chain l) marks

@@ -1,6 +1,6 @@
 -- The layout of a file (01, "The recording"): where each number stands, and what varies by kind.
 -- A file is a list of bytes; a byte beyond its end reads as 0.
-use Rattle.std.specs.Prelude.{◌≡◌, Bool, true, false, ◌||◌, List, ℕ, ◌+◌, ◌-◌, ◌*◌, ◌≤◌, ◌<◌, eqb, length, get_or}
+use Rattle.std.specs.Prelude.{◌≡◌, Bool, true, false, ◌||◌, List, ℕ, ◌+◌, ◌-◌, ◌*◌, ◌≤◌, eqb, length, get_or}
 
 -- The byte at place i.
 abbrev pub byte : List ℕ → ℕ → ℕ
@@ -94,9 +94,3 @@ pub record Sized (f : List ℕ) : Type 0 where
   pub long : length f ≡ full_length f
   pub most_events : events f ≤ 48
   pub most_locations : locations f ≤ 8
-
--- r comes after e, and between them stands no number of an event, where there are n records.
-pub record Following (n e r : ℕ) : Type 0 where
-  pub above : e < r
-  pub high : r ≤ 64
-  pub gap : (m : ℕ) → e < m → m < r → (n < m) × (m < 56)

@@ -39,14 +39,13 @@ pub fn follow(
     size: usize,
     limit: usize,
     start: Cursor,
-    marks: &mut [u8],
+    marks: &mut [bool],
 ) -> bool
     requires { Linked file.now 0 0 0 from size limit × (start.at < 256) × (length marks.old ≡ 256) }
     ensures { (l : List ℕ) → Marked l marks.old → Followed limit l (chain limit (next_of file.now from size) start.at) result marks.new }
 {
     let mut cursor = start;
-    let mut n = limit + 1;
-    while 0 < n {
+    for _ in 0..=limit {
         let x = cursor.at;
         if x == 0 {
             return true;
@@ -54,13 +53,12 @@ pub fn follow(
         if limit < x {
             return false;
         }
-        if marks[x] == 1 {
+        let met_before = marks[x];
+        if met_before {
             return false;
         }
-        marks[x] = 1;
-        let next = cursor.moved(file, from, size);
-        cursor = next;
-        n -= 1;
+        marks[x] = true;
+        cursor = cursor.moved(file, from, size);
     }
     true
 }
@@ -71,35 +69,25 @@ pub fn count(file: &[u8], from: usize, size: usize, limit: usize, start: Cursor)
     ensures { result ≡ length (chain limit (next_of file.now from size) start.at) }
 {
     let mut cursor = start;
-    let mut n: usize = 0;
-    while n <= limit {
+    for met in 0..=limit {
         let x = cursor.at;
         if x == 0 {
-            return n;
+            return met;
         }
-        n += 1;
         if limit < x {
-            return n;
+            return met + 1;
         }
-        let next = cursor.moved(file, from, size);
-        cursor = next;
+        cursor = cursor.moved(file, from, size);
     }
-    n
+    limit + 1
 }
 
 // Whether every number from 1 to limit is marked.
-pub fn all_marked(marks: [u8; 256], limit: usize) -> bool
+pub fn all_marked(marks: &[bool; 256], limit: usize) -> bool
     requires { limit < 256 }
-    ensures { (l : List ℕ) → Marked l marks → result ≡ all_met limit l }
+    ensures { (l : List ℕ) → Marked l marks.now → result ≡ all_met limit l }
 {
-    let mut x: usize = 0;
-    while x < limit {
-        x += 1;
-        if marks[x] != 1 {
-            return false;
-        }
-    }
-    true
+    marks[1..=limit].iter().all(|mark| *mark)
 }
 
 // Whether the chains from count starts meet every record once and no number over the limit.
@@ -115,14 +103,12 @@ pub fn once_each(
     requires { Linked file.now first step count from size limit }
     ensures { result ≡ once_each limit (met limit (next_of file.now from size) (start_of file.now first step) count) }
 {
-    let mut marks = [0u8; 256];
-    let mut j: usize = 0;
-    while j < count {
+    let mut marks = [false; 256];
+    for j in 0..count {
         let start = Cursor::start(file, first, step, j);
         if !follow(file, from, size, limit, start, &mut marks) {
             return false;
         }
-        j += 1;
     }
-    all_marked(marks, limit)
+    all_marked(&marks, limit)
 }

@@ -3,7 +3,7 @@
 
 ghost use Rattle.std.specs.Prelude.{◌≡◌, ◌≤◌, ◌<◌};
 ghost use Rattle.models.specs.Recording.{event, of_class, flagged, access};
-ghost use Rattle.layout.specs.Layout.{side, events, locations, links, event_byte, link_byte, Sized, Following};
+ghost use Rattle.layout.specs.Layout.{side, events, locations, links, event_byte, link_byte, Sized};
 ghost use Rattle.layout.specs.Decode.{is_recorded, is_initial, field_or, decode};
 
 use crate::kind;
@@ -38,17 +38,6 @@ pub fn locations(file: &[u8]) -> usize
     ensures { (result ≡ locations file.now) × (result ≤ 8) }
 {
     file[2] as usize
-}
-
-// The next number after e that an event may have: behind the n records come the initial writes.
-pub fn following(n: usize, e: usize) -> usize
-    requires { (n ≤ 48) × (e < 64) }
-    ensures { Following n e result }
-{
-    if e == n {
-        return 56;
-    }
-    e + 1
 }
 
 // Byte k of event record i.

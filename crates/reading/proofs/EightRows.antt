@@ -8,7 +8,6 @@ use lib.ListN.{length, get_or, set, replicate, length-set}
 use lib.Seq.{get_or-set_same, get_or-set_other}
 use Rattle.relation.specs.Rel.{Set, empty}
 use Rattle.relation.specs.Bits.{bit}
-use Rattle.relation.proofs.ByteLaws.{bit_none}
 use Rattle.relation.proofs.GridLaws.{bit_nil}
 
 -- P holds of the set that each row holds, by the row's number.
@@ -16,13 +15,13 @@ pub record Eight (P : ℕ → Set → Type 0) (h : List (List ℕ)) : Type 0 whe
   pub long : length h ≡ 8
   pub row : (v : ℕ) → v < 8 → P v (bit (get_or h v []))
 
-empty_row : (n v : ℕ) → bit (get_or (replicate n (replicate 8 0)) v []) ≡ empty
-empty_row zero v = bit_nil
-empty_row (suc n) zero = bit_none
-empty_row (suc n) (suc v) = empty_row n v
+filled_row : (n v : ℕ) (r : List ℕ) → bit r ≡ empty → bit (get_or (replicate n r) v []) ≡ empty
+filled_row zero v r e = bit_nil
+filled_row (suc n) zero r e = e
+filled_row (suc n) (suc v) r e = filled_row n v r e
 
-pub eight_none : {P : ℕ → Set → Type 0} → ((v : ℕ) → P v empty) → Eight P (replicate 8 (replicate 8 0))
-eight_none {P} e = record { long = refl; row = λ v g. subst (P v) (sym (empty_row 8 v)) (e v) }
+pub eight_none : {P : ℕ → Set → Type 0} (r : List ℕ) → bit r ≡ empty → ((v : ℕ) → P v empty) → Eight P (replicate 8 r)
+eight_none {P} r q e = record { long = refl; row = λ v g. subst (P v) (sym (filled_row 8 v r q)) (e v) }
 
 module _ {P Q : ℕ → Set → Type 0} {h : List (List ℕ)} (w : Eight P h) where
   pub eight_keep : ((v : ℕ) → v < 8 → (s : Set) → P v s → Q v s) → Eight Q h

@@ -1,24 +1,26 @@
 -- Laws of walks along the links into an event.
 use mathlib.Core.Path.{◌≡◌, refl, sym, ap, ap₂, subst, ◌∙◌, fun_ext}
-use mathlib.Core.Bool.{Bool, true, ◌&&◌, ◌||◌, false, or-false, or_assoc}
-use mathlib.Core.List.{List, [], ◌∷◌}
+use mathlib.Core.Bool.{Bool, true, ◌&&◌, ◌||◌, or-false, or_assoc}
+use mathlib.Core.List.{List, [], ◌∷◌, ◌++◌, append_assoc, append-nil}
 use mathlib.Core.Logic.{◌⊎◌, inl, inr}
-use Prim.Native.Nat.{ℕ, suc, ◌+◌, ◌-◌, ◌*◌, ◌<◌, ◌≤◌}
+use Prim.Native.Nat.{ℕ, zero, suc, ◌+◌, ◌-◌, ◌*◌, ◌<◌, ◌≤◌}
 use native.Mathlib.Numerals.{add-one}
 use native.Mathlib.Omega.{arith}
 use borrow.Author.Tests.{ne_eqb, eq-eqb, leb-true, ltb-true}
 use lib.Dec.{eqb, ltb}
-use lib.ListN.{length, get_or, set, replicate}
+use lib.ListN.{length, get_or, set, take, replicate}
+use Rattle.std.proofs.lemmas.List.{take_more, take_all}
 use lib.Bits.{bit_and, and_mask}
 use Rattle.relation.specs.Rel.{Set, Rel, empty, single, union, inverse, some}
 use Rattle.relation.specs.Bits.{bit, edge}
-use Rattle.relation.proofs.Truth.{and_left, and_right}
+use Rattle.relation.proofs.Truth.{and_left, and_right, and_both}
 use Rattle.layout.specs.Layout.{events, links, link_byte, Sized}
-use Rattle.layout.specs.Chains.{follow, next_of, next_link, first_link, links_into, all_of}
+use Rattle.layout.specs.Chains.{among, follow, next_of, next_link, first_link, links_into, all_of}
 use Rattle.layout.specs.Decode.{decode}
 use Rattle.reading.specs.Sets.{SourcesInto}
 use Rattle.reading.specs.Readable.{within, readable}
 use Rattle.layout.proofs.FieldLaws.{recorded_is}
+use Rattle.layout.proofs.ChainFacts.{among_at, follow_positive}
 use Rattle.layout.proofs.ChainLaws.{follow_end, follow_none, follow_in}
 use Rattle.reading.proofs.EightRows.{Eight, eight_none, eight_keep, eight_set}
 
@@ -69,10 +71,6 @@ pub record Here (f : List ℕ) (q : ℕ → Bool) (from n x : ℕ) : Type 0 wher
   pub good : q x ≡ true
   pub next : (y : ℕ) → y ≡ next_of f from 4 x → follow (links f) (next_link f) n x ≡ x ∷ follow (links f) (next_link f) (n - 1) y
 
--- The same of a walk.
-abbrev pub HereOf : {f : List ℕ} {q : ℕ → Bool} {b from n x : ℕ} → LinkWalk f q b from n x → Type 0
-HereOf {f} {q} {b} {from} {n} {x} w = Here f q from n x
-
 pub walk_start : {f : List ℕ} {q : ℕ → Bool} {b e n x : ℕ} → Sized f → 1 ≤ b → b ≤ events f → e ≡ events f → n ≡ links f → x ≡ first_link f (b - 1)
     → ((m : ℕ) → q m ≡ true → m ≤ links f) → all_of (links_into f b) q ≡ true → LinkWalk f q b (8 + 8 * e) (n + 1) x
 walk_start {f} {q} {b} {e} {n} {x} s l h p i j k g =
@@ -114,86 +112,132 @@ module _ {f : List ℕ} {q : ℕ → Bool} {b from n x : ℕ} (w : LinkWalk f q 
         rest = and_right (q x) _ (subst (λ (l : List ℕ). all_of l q ≡ true) (h.next y s) w.rest);
       }
 
--- Of the links into b those before x pass the test p: what is left decides what all do.
-pub record Along (f : List ℕ) (p : ℕ → Bool) (b n x : ℕ) : Type 0 where
-  pub same : all_of (links_into f b) p ≡ all_of (follow (links f) (next_link f) n x) p
-
-pub along_start : {f : List ℕ} {p : ℕ → Bool} {b n x : ℕ} → n ≡ links f → x ≡ first_link f (b - 1) → Along f p b (n + 1) x
-along_start {f} {p} {b} {n} {x} e s = record { same = ap (λ (l : List ℕ). all_of l p) (whole f b n x e s) }
-
-module _ {f : List ℕ} {p : ℕ → Bool} {b n x : ℕ} (w : Along f p b n x) where
-  pub along_done : (x ≡ 0) ⊎ (n ≤ 0) → true ≡ all_of (links_into f b) p
-  unfolding all_of
-  along_done e = sym (w.same ∙ ap (λ (l : List ℕ). all_of l p) (over f n x e))
-
-  module _ {q : ℕ → Bool} {from : ℕ} (h : Here f q from n x) where
-    pub along_fails : p x ≡ false → false ≡ all_of (links_into f b) p
-    unfolding all_of
-    along_fails t =
-        let y = next_of f from 4 x in
-        sym (w.same ∙ ap (λ (l : List ℕ). all_of l p) (h.next y refl) ∙ ap (λ (c : Bool). c && all_of (left f (n - 1) y) p) t)
-
-    pub along_on : {y : ℕ} → y ≡ next_of f from 4 x → p x ≡ true → Along f p b (n - 1) y
-    unfolding all_of
-    along_on {y} s t = record { same = w.same ∙ ap (λ (l : List ℕ). all_of l p) (h.next y s) ∙ ap (λ (c : Bool). c && all_of (left f (n - 1) y) p) t }
-
--- The sources of links of type t into b: those taken, and those of the links that are left.
+-- The link m is of type t and from a.
 unfoldable pub leads : List ℕ → ℕ → ℕ → ℕ → Bool
 leads f t a m = eqb (link_byte f m 1) t && eqb (link_byte f m 2) a
 
-pub record Taken (f : List ℕ) (t b n x : ℕ) (r : Set) : Type 0 where
-  pub same : (a : ℕ) → r a || some (follow (links f) (next_link f) n x) (leads f t a) ≡ some (links_into f b) (leads f t a)
+-- The walk that lists the links into b: those met and those left are all.
+pub record Listing (f : List ℕ) (b from n x : ℕ) (met : List ℕ) : Type 0 where
+  pub walk : LinkWalk f (within f) b from n x
+  pub whole : met ++ follow (links f) (next_link f) n x ≡ links_into f b
 
-pub taken_start : {f : List ℕ} {t b n x : ℕ} {r : Set} → r ≡ empty → n ≡ links f → x ≡ first_link f (b - 1) → Taken f t b (n + 1) x r
-unfolding empty
-taken_start {f} {t} {b} {n} {x} e i s =
-    record {
-      same = λ a. ap (λ (u : Set). u a || some (left f (n + 1) x) (leads f t a)) e ∙ ap (λ (l : List ℕ). some l (leads f t a)) (sym (whole f b n x i s));
-    }
+pub listing_start : {f : List ℕ} {b e n x : ℕ} {met : List ℕ} → Sized f → 1 ≤ b → b ≤ events f → all_of (links_into f b) (within f) ≡ true → e ≡ events f → n ≡ links f
+    → x ≡ first_link f (b - 1) → met ≡ [] → Listing f b (8 + 8 * e) (n + 1 - 0) x met
+listing_start {f} {b} {e} {n} {x} {met} s l h g p i j z =
+    subst (λ (k : ℕ). Listing f b (8 + 8 * e) k x met) (omega arith)
+    (record { walk = walk_start s l h p i j (within_le f) g; whole = ap (λ (k : List ℕ). k ++ left f (n + 1) x) z ∙ sym (whole f b n x i j) })
 
-module _ {f : List ℕ} {t b n x : ℕ} {r : Set} (w : Taken f t b n x r) where
-  pub taken_done : {q : ℕ → Bool} {from : ℕ} → LinkWalk f q b from n x → (x ≡ 0) ⊎ (n ≤ 0) → r ≡ inverse ((decode f).link t) b
-  unfolding inverse decode leads some
-  taken_done v e =
-      fun_ext
-      (λ a. sym (or-false (r a)) ∙ ap (λ (l : List ℕ). r a || some l (leads f t a)) (sym (over f n x e)) ∙ w.same a
-      ∙ ap (λ (c : Bool). c && some (links_into f b) (leads f t a)) (sym (recorded_is f b v.low v.high)))
+module _ {f : List ℕ} {b from n i x : ℕ} {met : List ℕ} (w : Listing f b from (n - i) x met) where
+  pub listing_here : i < n → (x ≡ 0 → ⊥) → Here f (within f) from (n - i) x
+  listing_here h d = walk_here w.walk (omega arith) d
 
-  -- one link more, with type v
-  module _ {q : ℕ → Bool} {from y v : ℕ} (h : Here f q from n x) (s : y ≡ next_of f from 4 x) (k : v ≡ link_byte f x 1) where
-    taken_on : (u : Set) → ((a : ℕ) → u a ≡ r a || leads f t a x) → Taken f t b (n - 1) y u
-    unfolding some
-    taken_on u g =
-        record {
-          same = λ a. ap (λ (c : Bool). c || some (left f (n - 1) y) (leads f t a)) (g a) ∙ or_assoc (r a) (leads f t a x) (some (left f (n - 1) y) (leads f t a))
-              ∙ ap (λ (l : List ℕ). r a || some l (leads f t a)) (sym (h.next y s)) ∙ w.same a;
-        }
+  pub listing_on : {y : ℕ} {k : List ℕ} → i < n → (x ≡ 0 → ⊥) → y ≡ next_of f from 4 x → k ≡ met ++ x ∷ [] → Listing f b from (n - (i + 1)) y k
+  listing_on {y} {k} h d s z =
+      let here = listing_here h d in
+      subst (λ (j : ℕ). Listing f b from j y k) (omega arith)
+      (record {
+        walk = walk_on w.walk here s;
+        whole = ap (λ (l : List ℕ). l ++ left f (n - i - 1) y) z ∙ append_assoc met (x ∷ []) (left f (n - i - 1) y)
+            ∙ ap (λ (l : List ℕ). met ++ l) (sym (here.next y s)) ∙ w.whole;
+      })
 
-    pub taken_with : {a : ℕ} {u : Set} → v ≡ t → a ≡ link_byte f x 2 → u ≡ union r (single a) → Taken f t b (n - 1) y u
-    unfolding union single leads
-    taken_with {u = u} e l o =
-        taken_on u (λ a. ap (λ (z : Set). z a) o
-        ∙ ap (λ (c : Bool). r a || c) (ap₂ (λ (c : Bool) (z : ℕ). c && eqb z a) (sym (eq-eqb (link_byte f x 1) t (sym k ∙ e))) l))
+pub listing_done : {f : List ℕ} {b from n x : ℕ} {met : List ℕ} → Listing f b from n x met → (x ≡ 0) ⊎ (n ≤ 0) → met ≡ links_into f b
+listing_done {f} {b} {from} {n} {x} {met} w e = sym (append-nil met) ∙ ap (λ (l : List ℕ). met ++ l) (sym (over f n x e)) ∙ w.whole
 
-    pub taken_keep : (v ≡ t → ⊥) → Taken f t b (n - 1) y r
-    unfolding leads
-    taken_keep d =
-        taken_on r (λ a. sym (or-false (r a)) ∙ ap (λ (c : Bool). r a || (c && eqb (link_byte f x 2) a)) (sym (ne_eqb (link_byte f x 1) t (λ z. d (k ∙ z)))))
+-- Each link of a readable chain lies within the file, and is readable.
+pub all_within : (f l : List ℕ) → all_of l (readable f) ≡ true → all_of l (within f) ≡ true
+unfolding all_of readable
+all_within f [] e = refl
+all_within f (m ∷ l) e =
+    and_both (within f m) (all_of l (within f)) (and_left (within f m) _ (and_left (readable f m) (all_of l (readable f)) e))
+    (all_within f l (and_right (readable f m) (all_of l (readable f)) e))
+
+all_at : (q : ℕ → Bool) (l : List ℕ) (i : ℕ) → i < length l → all_of l q ≡ true → q (get_or l i 0) ≡ true
+unfolding all_of
+all_at q [] i h e = absurd (omega arith)
+all_at q (m ∷ l) zero h e = and_left (q m) (all_of l q) e
+all_at q (m ∷ l) (suc i) h e = all_at q l i (omega arith) (and_right (q m) (all_of l q) e)
+
+-- The links listed, one after the other: the link at place i.
+pub record Listed (f : List ℕ) (b : ℕ) (l : List ℕ) : Type 0 where
+  pub all : l ≡ links_into f b
+  pub good : all_of (links_into f b) (readable f) ≡ true
+  pub low : 1 ≤ b
+  pub high : b ≤ events f
+
+module _ {f : List ℕ} {b : ℕ} {l : List ℕ} (w : Listed f b l) {i : ℕ} (h : i < length l) where
+  good_at : readable f (get_or l i 0) ≡ true
+  good_at = all_at (readable f) l i h (ap (λ (k : List ℕ). all_of k (readable f)) w.all ∙ w.good)
+
+  pub listed_low : 1 ≤ get_or l i 0
+  listed_low =
+      follow_positive (links f) (next_link f) (suc (links f)) (first_link f (b - 1)) (get_or l i 0)
+      (ap (among (get_or l i 0)) (sym w.all) ∙ among_at l i h)
+
+  pub listed_le : get_or l i 0 ≤ links f
+  listed_le = readable_le f (get_or l i 0) good_at
+
+  pub listed_lt : link_byte f (get_or l i 0) 2 < 64
+  listed_lt = readable_lt f (get_or l i 0) good_at
+
+-- The sources of the links of type t among those of the list.
+pub record Gathered (f : List ℕ) (t : ℕ) (l : List ℕ) (s : Set) : Type 0 where
+  pub same : (a : ℕ) → s a ≡ some l (leads f t a)
+
+pub gathered_none : {f : List ℕ} {t : ℕ} {s : Set} → s ≡ empty → Gathered f t [] s
+unfolding empty some
+gathered_none e = record { same = λ a. ap (λ (u : Set). u a) e }
+
+some_append : (k l : List ℕ) (s : Set) → some (k ++ l) s ≡ some k s || some l s
+unfolding some
+some_append [] l s = refl
+some_append (x ∷ k) l s = ap (λ (c : Bool). s x || c) (some_append k l s) ∙ sym (or_assoc (s x) (some k s) (some l s))
+
+module _ {f : List ℕ} {t : ℕ} {s : Set} {v : ℕ} (l : List ℕ) (i : ℕ) (w : Gathered f t (take i l) s) (h : i < length l) (k : v ≡ link_byte f (get_or l i 0) 1) where
+  one_link : (a : ℕ) → some (take (i + 1) l) (leads f t a) ≡ s a || leads f t a (get_or l i 0)
+  unfolding some
+  one_link a =
+      ap (λ (m : List ℕ). some m (leads f t a)) (take_more l i 0 h) ∙ some_append (take i l) (get_or l i 0 ∷ []) (leads f t a)
+      ∙ ap₂ ◌||◌ (sym (w.same a)) (or-false (leads f t a (get_or l i 0)))
+
+  pub gathered_with : {a : ℕ} {u : Set} → v ≡ t → a ≡ link_byte f (get_or l i 0) 2 → u ≡ union s (single a) → Gathered f t (take (i + 1) l) u
+  unfolding union single leads
+  gathered_with {u = u} e p o =
+      record {
+        same = λ a. ap (λ (z : Set). z a) o
+            ∙ ap (λ (c : Bool). s a || c) (ap₂ (λ (c : Bool) (z : ℕ). c && eqb z a) (sym (eq-eqb (link_byte f (get_or l i 0) 1) t (sym k ∙ e))) p)
+            ∙ sym (one_link a);
+      }
+
+  pub gathered_keep : (v ≡ t → ⊥) → Gathered f t (take (i + 1) l) s
+  unfolding leads
+  gathered_keep d =
+      record {
+        same = λ a. sym (or-false (s a))
+            ∙ ap (λ (c : Bool). s a || (c && eqb (link_byte f (get_or l i 0) 2) a)) (sym (ne_eqb (link_byte f (get_or l i 0) 1) t (λ z. d (k ∙ z))))
+            ∙ sym (one_link a);
+      }
+
+pub gathered_all : {f : List ℕ} {t b : ℕ} {s : Set} (l : List ℕ) (i : ℕ) → Gathered f t (take i l) s → length l ≤ i → Listed f b l → s ≡ inverse ((decode f).link t) b
+unfolding inverse decode leads
+gathered_all {f} {t} {b} {s} l i w h v =
+    fun_ext
+    (λ a. w.same a ∙ ap (λ (k : List ℕ). some k (leads f t a)) (take_all _ l h ∙ v.all)
+    ∙ ap (λ (c : Bool). c && some (links_into f b) (leads f t a)) (sym (recorded_is f b v.low v.high)))
 
 -- The same for every type below 8 at once, a row for each.
-abbrev pub Sorted : List ℕ → ℕ → ℕ → ℕ → List (List ℕ) → Type 0
-Sorted f b n x = Eight (λ t. Taken f t b n x)
+abbrev pub Sorted : List ℕ → List ℕ → List (List ℕ) → Type 0
+Sorted f l = Eight (λ t. Gathered f t l)
 
-pub sorted_start : {f : List ℕ} {b n x : ℕ} → n ≡ links f → x ≡ first_link f (b - 1) → Sorted f b (n + 1) x (replicate 8 (replicate 8 0))
-sorted_start i s = eight_none (λ t. taken_start refl i s)
+pub sorted_start : {f : List ℕ} (r : List ℕ) → bit r ≡ empty → Sorted f [] (replicate 8 r)
+sorted_start r p = eight_none r p (λ t. gathered_none refl)
 
-module _ {f : List ℕ} {q : ℕ → Bool} {b from n x y v : ℕ} {h : List (List ℕ)} (w : Sorted f b n x h) (i : Here f q from n x) (s : y ≡ next_of f from 4 x)
-    (k : v ≡ link_byte f x 1) where
-  pub sorted_with : {a : ℕ} (r : List ℕ) → v < 8 → a ≡ link_byte f x 2 → bit r ≡ union (bit (get_or h v [])) (single a) → Sorted f b (n - 1) y (set h v r)
-  sorted_with r g l o = eight_set w v r g (taken_with (w.row v g) i s k refl l o) (λ t j d u z. taken_keep z i s k d)
+module _ {f : List ℕ} {h : List (List ℕ)} {v : ℕ} (l : List ℕ) (i : ℕ) (w : Sorted f (take i l) h) (j : i < length l) (k : v ≡ link_byte f (get_or l i 0) 1) where
+  pub sorted_with : {a : ℕ} (r : List ℕ) → v < 8 → a ≡ link_byte f (get_or l i 0) 2 → bit r ≡ union (bit (get_or h v [])) (single a) → Sorted f (take (i + 1) l) (set h v r)
+  sorted_with r g p o = eight_set w v r g (gathered_with l i (w.row v g) j k refl p o) (λ t m d u z. gathered_keep l i z j k d)
 
-  pub sorted_keep : 8 ≤ v → Sorted f b (n - 1) y h
-  sorted_keep g = eight_keep w (λ t j u z. taken_keep z i s k (λ e. omega arith))
+  pub sorted_keep : 8 ≤ v → Sorted f (take (i + 1) l) h
+  sorted_keep g = eight_keep w (λ t m u z. gathered_keep l i z j k (λ e. omega arith))
 
-pub sorted_done : {f : List ℕ} {q : ℕ → Bool} {b from n x : ℕ} {h : List (List ℕ)} → Sorted f b n x h → LinkWalk f q b from n x → (x ≡ 0) ⊎ (n ≤ 0) → SourcesInto f b h
-sorted_done w v e = record { long = w.long; row = λ t k. taken_done (w.row t k) v e }
+pub sorted_all : {f : List ℕ} {b : ℕ} {h : List (List ℕ)} (l : List ℕ) (i : ℕ) → Sorted f (take i l) h → length l ≤ i → Listed f b l → SourcesInto f b h
+sorted_all l i w g v = record { long = w.long; row = λ t k. gathered_all l i (w.row t k) g v }

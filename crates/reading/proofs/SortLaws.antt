@@ -1,19 +1,20 @@
 -- Laws of the sets of events of a file: ranges of numbers, and events sorted by a byte of their records.
 use mathlib.Core.Path.{◌≡◌, refl, sym, ap, ap₂, subst, ◌∙◌, fun_ext}
 use mathlib.Core.Bool.{Bool, true, false, not, ◌&&◌, ◌||◌, or-false, and-false, and-true, or_assoc, and_comm}
-use mathlib.Core.List.{List, []}
+use mathlib.Core.List.{List, [], ◌∷◌}
 use Prim.Native.Nat.{ℕ, ◌+◌, ◌<◌, ◌≤◌}
 use native.Mathlib.Omega.{arith}
 use native.Mathlib.Decide.{ℕ_discrete, dec_lt}
 use borrow.Author.Tests.{eq-eqb, ne_eqb, le-leb, lt-leb, lt-ltb, le-ltb}
 use lib.Dec.{eqb, leb, ltb}
 use lib.ListN.{get_or, set, replicate}
-use Rattle.relation.specs.Rel.{least, Next, Set, empty, single, given, union, intersection, difference}
+use Rattle.relation.specs.Rel.{Next, members, Set, empty, single, given, union, intersection, difference}
 use Rattle.relation.specs.Ring.{under}
 use Rattle.relation.specs.Bits.{bit}
 use Rattle.relation.proofs.ByteLaws.{bit_out}
 use Rattle.relation.proofs.Truth.{and_left}
-use Rattle.relation.proofs.SetLaws.{Least, least_is, upto, upto_none, upto_with, upto_keep, upto_skip, upto_done}
+use Rattle.relation.proofs.MemberLaws.{Left, First, left_all, left_next, left_none}
+use Rattle.relation.proofs.SetLaws.{upto, upto_none, upto_with, upto_keep, upto_skip, upto_done}
 use Rattle.models.specs.Recording.{event, of_class, of_mode, flagged}
 use Rattle.layout.specs.Layout.{events, locations, event_byte, Sized}
 use Rattle.layout.specs.Decode.{is_recorded, is_initial, field_or, decode}
@@ -43,69 +44,72 @@ initial_range f l s t u e p q w =
     w ∙ ap₂ difference p q
     ∙ fun_ext (λ j. ap₂ ◌&&◌ (ap (λ (m : ℕ). ltb j (56 + m)) e) (not_below 56 j) ∙ and_comm (ltb j (56 + locations f)) (leb 56 j))
 
--- The members of a row that are in s, member by member: those below e are found, where e is a member or 64.
-pub record Found (row s t : Set) (e : ℕ) : Type 0 where
-  pub high : e ≤ 64
-  pub holds : t ≡ upto e (intersection row s)
-  pub member : e < 64 → row e ≡ true
+-- The members of a row that are in s, member by member: those below e are found.
+abbrev Found : Set → Set → ℕ → Set → Type 0
+Found row s e t = t ≡ upto e (intersection row s)
 
-module _ (row s : Set) where
-  pub found_first : (t : Set) (e : ℕ) → t ≡ empty → e ≡ least 64 row → Found row s t e
+module _ (row s : Set) (e : ℕ) where
+  -- between e and n there is no member
+  found_skip : {n : ℕ} → Next row e n → (t : Set) → Found row s e t → Found row s n t
   unfolding intersection
-  found_first t e p q =
-      let l : Least 64 row e = subst (Least 64 row) (sym q) (least_is 64 row) in
-      record {
-        high = l.bound;
-        holds = upto_skip 0 e (intersection row s) t (omega arith) (p ∙ upto_none (intersection row s)) (λ j a b. ap (λ (x : Bool). x && s j) (l.smaller j b));
-        member = l.member;
-      }
+  found_skip {n} next t w = upto_skip e n (intersection row s) t next.low w (λ j a b. ap (λ (x : Bool). x && s j) (next.before j a b))
 
-  module _ (t : Set) (e : ℕ) (w : Found row s t e) (h : e < 64) (n : ℕ) (next : Next row (e + 1) n) where
-    on_to : (u : Set) → u ≡ upto (e + 1) (intersection row s) → Found row s u n
-    unfolding intersection
-    on_to u p =
-        record {
-          high = next.high;
-          holds = upto_skip (e + 1) n (intersection row s) u next.low p (λ j a b. ap (λ (x : Bool). x && s j) (next.before j a b));
-          member = next.member;
-        }
-
-    pub found_with : s e ≡ true → (u : Set) → u ≡ union t (single e) → Found row s u n
-    unfolding intersection
-    found_with q u p = on_to u (p ∙ upto_with e (intersection row s) t w.holds (ap₂ ◌&&◌ (w.member h) q))
-
-    pub found_keep : s e ≡ false → Found row s t n
-    unfolding intersection
-    found_keep q = on_to t (upto_keep e (intersection row s) t w.holds (ap (λ (x : Bool). row e && x) q ∙ and-false (row e)))
-
-  pub found_all : ((j : ℕ) → 64 ≤ j → row j ≡ false) → (t : Set) (e : ℕ) → 64 ≤ e → Found row s t e → t ≡ intersection row s
+  found_with : row e ≡ true → s e ≡ true → (t u : Set) → Found row s e t → u ≡ union t (single e) → Found row s (e + 1) u
   unfolding intersection
-  found_all out t e h w = upto_done e 64 (intersection row s) t h w.holds (λ j g. ap (λ (x : Bool). x && s j) (out j g))
+  found_with m q t u w p = p ∙ upto_with e (intersection row s) t w (ap₂ ◌&&◌ m q)
 
--- The events of s by byte k of their records, member by member.
-abbrev pub Sorting : List ℕ → Set → ℕ → ℕ → List (List ℕ) → Type 0
-Sorting f s k e = Eight (λ v t. Found s (holding f k v) t e)
+  found_keep : s e ≡ false → (t : Set) → Found row s e t → Found row s (e + 1) t
+  unfolding intersection
+  found_keep q t w = upto_keep e (intersection row s) t w (ap (λ (x : Bool). row e && x) q ∙ and-false (row e))
 
-pub sorting_first : (f : List ℕ) (s : Set) (k : ℕ) {e : ℕ} → e ≡ least 64 s → Sorting f s k e (replicate 8 (replicate 8 0))
-sorting_first f s k {e} p = eight_none (λ v. found_first s (holding f k v) empty e refl p)
+-- The events of s by byte k of their records, member by member: of the members those from e on are left.
+pub record Sorting (f : List ℕ) (s : Set) (k : ℕ) (h : List (List ℕ)) (others : List ℕ) : Type 0 where
+  pub e : ℕ
+  pub left : Left s e others
+  pub rows : Eight (λ v t. Found s (holding f k v) e t) h
 
-module _ (f : List ℕ) {s : Set} (k : ℕ) {e : ℕ} {h : List (List ℕ)} (w : Sorting f s k e h) where
-  pub sorting_recorded : AllRecorded f s → e < 64 → (1 ≤ e) × (e ≤ events f)
-  sorting_recorded all g = recorded_bounds f e (all e ((w.row 0 (omega arith)).member g))
+pub sorting_start : (f : List ℕ) (s : Set) (k : ℕ) (r : List ℕ) → bit r ≡ empty → {l : List ℕ} → l ≡ members s → Sorting f s k (replicate 8 r) l
+sorting_start f s k r p e = record { e = 0; left = subst (Left s 0) (sym e) (left_all s); rows = eight_none r p (λ v. upto_none (intersection s (holding f k v))) }
 
-  module _ {n x : ℕ} (g : e < 64) (next : Next s (e + 1) n) (at : x ≡ event_byte f e k) where
-    pub sorting_with : (r : List ℕ) → x < 8 → bit r ≡ union (bit (get_or h x [])) (single e) → Sorting f s k n (set h x r)
-    unfolding holding
-    sorting_with r i p =
-        eight_set w x r i (found_with s (holding f k x) _ e (w.row x i) g n next (eq-eqb (event_byte f e k) x (sym at)) _ p)
-        (λ v j d t q. found_keep s (holding f k v) t e q g n next (ne_eqb (event_byte f e k) v (λ z. d (at ∙ z))))
+module _ (f : List ℕ) {s : Set} (k : ℕ) {h : List (List ℕ)} {left : List ℕ} (w : Sorting f s k h left) where
+  module _ {m : ℕ} {more : List ℕ} (e : left ≡ m ∷ more) where
+    first : First s w.e m more
+    first = left_next w.left e
 
-    pub sorting_keep : 8 ≤ x → Sorting f s k n h
-    unfolding holding
-    sorting_keep i = eight_keep w (λ v j t q. found_keep s (holding f k v) t e q g n next (ne_eqb (event_byte f e k) v (λ z. omega (arith, at))))
+    pub sorting_recorded : AllRecorded f s → (1 ≤ m) × (m ≤ events f)
+    sorting_recorded all = recorded_bounds f m (all m first.member)
 
-pub sorting_all : {f : List ℕ} (row : List ℕ) {k e : ℕ} {h : List (List ℕ)} → 64 ≤ e → Sorting f (bit row) k e h → SortedBy f (bit row) k h
-sorting_all {f} row {k} {e} g w = record { long = w.long; row = λ v i. found_all (bit row) (holding f k v) (bit_out row) _ e g (w.row v i) }
+    module _ {x : ℕ} (at : x ≡ event_byte f m k) where
+      pub sorting_with : (r : List ℕ) → x < 8 → bit r ≡ union (bit (get_or h x [])) (single m) → Sorting f s k (set h x r) more
+      unfolding holding
+      sorting_with r i p =
+          record {
+            e = m + 1;
+            left = first.left;
+            rows = eight_set w.rows x r i
+                (found_with s (holding f k x) m first.member (eq-eqb (event_byte f m k) x (sym at)) _ _ (found_skip s (holding f k x) w.e first.next _ (w.rows.row x i)) p)
+                (λ v j d t q. found_keep s (holding f k v) m (ne_eqb (event_byte f m k) v (λ z. d (at ∙ z))) t (found_skip s (holding f k v) w.e first.next t q));
+          }
+
+      pub sorting_keep : 8 ≤ x → Sorting f s k h more
+      unfolding holding
+      sorting_keep i =
+          record {
+            e = m + 1;
+            left = first.left;
+            rows = eight_keep w.rows
+                (λ v j t q. found_keep s (holding f k v) m (ne_eqb (event_byte f m k) v (λ z. omega (arith, at))) t (found_skip s (holding f k v) w.e first.next t q));
+          }
+
+pub sorting_all : {f : List ℕ} (row : List ℕ) {k : ℕ} {h : List (List ℕ)} {left : List ℕ} → left ≡ [] → Sorting f (bit row) k h left → SortedBy f (bit row) k h
+unfolding intersection
+sorting_all {f} row {k} e w =
+    record {
+      long = w.rows.long;
+      row = λ v i. upto_done 64 64 (intersection (bit row) (holding f k v)) _ (omega arith)
+          (found_skip (bit row) (holding f k v) w.e (left_none w.left e) _ (w.rows.row v i))
+          (λ j g. ap (λ (x : Bool). x && holding f k v j) (bit_out row j g));
+    }
 
 -- What is sorted has a record, where all that was to sort has one.
 sorted_recorded : (f : List ℕ) (s : Set) (k : ℕ) (rows : List (List ℕ)) → AllRecorded f s → SortedBy f s k rows → (v : ℕ) → v < 8 → AllRecorded f (bit (get_or rows v []))

@@ -3,20 +3,20 @@ use mathlib.Core.Path.{◌≡◌, refl, sym, ap, ap₂, subst, ◌∙◌, fun_ex
 use mathlib.Core.Bool.{Bool, true, false, ◌&&◌, ◌||◌, false≢true, and-false, or-false}
 use mathlib.Core.List.{List, [], ◌∷◌, ◌++◌, append_assoc, append-nil}
 use mathlib.Core.Logic.{◌⊎◌, inl, inr}
-use Prim.Native.Nat.{ℕ, zero, suc, ◌+◌, ◌-◌, ◌<◌, ◌≤◌}
+use Prim.Native.Nat.{ℕ, zero, suc, ◌+◌, ◌<◌, ◌≤◌}
 use native.Mathlib.Numerals.{add-one}
 use native.Mathlib.Omega.{arith}
 use native.Mathlib.Decide.{ℕ_discrete}
 use borrow.Author.Tests.{eq-eqb, ne_eqb, eqb-true}
 use lib.Dec.{eqb}
-use lib.ListN.{length, get_or, set, take, drop, length-set, length-append, drop_of_length-le}
-use lib.Seq.{get_or-set_same, get_or-set_other, take-suc-set, length-take-le, get_or-take, drop-cons}
+use lib.ListN.{length, get_or, set, length-set, length-append}
+use lib.Seq.{get_or-set_same, get_or-set_other}
 use Rattle.relation.specs.Rel.{Set, Rel, empty, single, union, product, either, plus, nodes}
 use Rattle.relation.specs.Bits.{bit, edge}
 use Rattle.relation.proofs.Meaning.{Steps, one, more, mem_below, plus_sound, plus_holds, plus_passes, plus_complete}
 use Rattle.models.specs.Graph.{base}
 use Rattle.layout.specs.Layout.{events, event_byte, threads, Sized}
-use Rattle.layout.specs.Chains.{among, chain, met, fresh, all_met, once_each, next_of, next_event, head, threads_sound, thread, threads_up_to}
+use Rattle.layout.specs.Chains.{among, chain, met, fresh, all_met, once_each, next_event, head, threads_sound, thread, threads_up_to}
 use Rattle.layout.specs.Decode.{is_recorded, is_initial, decode}
 use Rattle.reading.specs.Sets.{Line}
 use Rattle.relation.proofs.Truth.{is_false, same_test, by_test, and_left, and_right, or_either, or_left, or_right}
@@ -30,13 +30,6 @@ data Onward (limit : ℕ) (next : ℕ → ℕ) : List ℕ → Type 0 where
   cons : {x : ℕ} {l : List ℕ} → 1 ≤ x → x ≤ limit → next x ≤ limit → (next x ≡ 0) ⊎ (among (next x) l ≡ true) → Onward limit next l
       → Onward limit next (x ∷ l)
 
--- The number at a place of such a list.
-record Place (limit : ℕ) (next : ℕ → ℕ) (l : List ℕ) (k x : ℕ) : Type 0 where
-  low : 1 ≤ x
-  high : x ≤ limit
-  follows : next x ≤ limit
-  behind : (next x ≡ 0) ⊎ (among (next x) (drop (suc k) l) ≡ true)
-
 module _ (limit : ℕ) (next : ℕ → ℕ) where
   ended_onward : (l : List ℕ) {x : ℕ} {k : List ℕ} → Ended limit next x k → Onward limit next l → Onward limit next (k ++ l)
   ended_onward l end o = o
@@ -48,10 +41,10 @@ module _ (limit : ℕ) (next : ℕ → ℕ) where
       ] in
       cons p q (ended_next limit next x (step p q w) (among_here x x k refl)) behind (ended_onward l w o)
 
-  onward_at : (l : List ℕ) (k : ℕ) → k < length l → Onward limit next l → Place limit next l k (get_or l k 0)
-  onward_at [] k h o = absurd (omega arith)
-  onward_at (x ∷ l) zero h (cons p q r b o) = record { low = p; high = q; follows = r; behind = b }
-  onward_at (x ∷ l) (suc k) h (cons p q r b o) = (let w = onward_at l k (omega arith) o in record { low = w.low; high = w.high; follows = w.follows; behind = w.behind })
+  -- What ends such a list is one too.
+  onward_behind : (l : List ℕ) {k : List ℕ} → Onward limit next (l ++ k) → Onward limit next k
+  onward_behind [] o = o
+  onward_behind (x ∷ l) (cons p q r b o) = onward_behind l o
 
   -- Chains on which together nothing is met twice, one behind the other.
   module _ (start : ℕ → ℕ) (n : ℕ) (sound : fresh limit [] (met limit next start n) ≡ true) where
@@ -67,24 +60,19 @@ module _ (limit : ℕ) (next : ℕ → ℕ) where
       fresh_length limit [] (met limit next start j) (fresh_upto limit next start n j h p)
       (λ x m. let w = met_cases limit next start j x m in follow_positive limit next (suc limit) (start w.0) x w.2)
 
--- The chain of a thread, from the number of records and the head as they were read.
-pub length_is : (f : List ℕ) (t n x k : ℕ) → n ≡ events f → x ≡ head f t → k ≡ length (chain n (next_of f 8 8) x) → k ≡ length (thread f t)
-length_is f t n x k e h p = p ∙ ap₂ (λ (i j : ℕ). length (chain i (next_of f 8 8) j)) e h
-
-pub line_none : (f at : List ℕ) → Line f 0 0 at
+pub line_none : (f line : List ℕ) → line ≡ [] → Line f 0 line
 unfolding met
-line_none f at = record { bounded = omega arith; listed = refl }
+line_none f line e = record { bounded = omega (arith, ap length e); listed = e }
 
-pub line_all : (f : List ℕ) (t len : ℕ) (at : List ℕ) → Line f t len at → t ≤ threads → threads ≤ t → Line f threads len at
-line_all f t len at w h g = subst (λ (k : ℕ). Line f k len at) (omega arith) w
+pub line_all : (f : List ℕ) (t : ℕ) (line : List ℕ) → Line f t line → t ≤ threads → threads ≤ t → Line f threads line
+line_all f t line w h g = subst (λ (k : ℕ). Line f k line) (omega arith) w
 
 -- The line so far, and the rest of a thread's chain.
-pub record Partway (f : List ℕ) (t x len : ℕ) (at : List ℕ) : Type 0 where
+pub record Partway (f : List ℕ) (t x : ℕ) (line : List ℕ) : Type 0 where
   pub rest : List ℕ
   pub ended : Ended (events f) (next_event f) x rest
-  pub long : length at ≡ 64
-  pub room : len + length rest ≤ 48
-  pub whole : take len at ++ rest ≡ threads_up_to f (t + 1)
+  pub room : length line + length rest ≤ 48
+  pub whole : line ++ rest ≡ threads_up_to f (t + 1)
 
 module _ (f : List ℕ) (s : Sized f) (sound : threads_sound f ≡ true) where
   threads_fresh : fresh (events f) [] (threads_up_to f threads) ≡ true
@@ -101,45 +89,40 @@ module _ (f : List ℕ) (s : Sized f) (sound : threads_sound f ≡ true) where
   pub thread_at : (t : ℕ) → t < threads → (k : ℕ) → k < length (thread f t) → (1 ≤ get_or (thread f t) k 0) × (get_or (thread f t) k 0 ≤ events f)
   thread_at t h k g = ended_at (events f) (next_event f) k (thread_ended t h) g
 
-  pub partway_start : (t x len : ℕ) (at : List ℕ) → t < threads → Line f t len at → length at ≡ 64 → x ≡ head f t → Partway f t x len at
+  pub partway_start : (t x : ℕ) (line : List ℕ) → t < threads → Line f t line → x ≡ head f t → Partway f t x line
   unfolding met
-  partway_start t x len at h line l e =
+  partway_start t x line h w e =
       let rest = thread f t in
-      let whole : take len at ++ rest ≡ threads_up_to f (suc t) = ap (λ (k : List ℕ). k ++ rest) line.listed in
-      let most = few_events (suc t) (omega arith) in
-      let front = length-take-le len at (omega (arith, line.bounded, l)) in
-      let sum = sym (length-append (take len at) rest) ∙ ap length whole in
+      let whole : line ++ rest ≡ threads_up_to f (suc t) = ap (λ (k : List ℕ). k ++ rest) w.listed in
       record {
         rest = rest;
         ended = subst (λ (y : ℕ). Ended (events f) (next_event f) y rest) (sym e) (thread_ended t h);
-        long = l;
-        room = omega (arith, most, front, sum, s.most_events);
+        room = omega (arith, few_events (suc t) (omega arith), sym (length-append line rest) ∙ ap length whole, s.most_events);
         whole = rw (add-one t) whole;
       }
 
-module _ (f : List ℕ) (t x len : ℕ) (at : List ℕ) (w : Partway f t x len at) where
-  pub partway_done : x ≡ 0 → Line f (t + 1) len at
+module _ (f : List ℕ) (t x : ℕ) (line : List ℕ) (w : Partway f t x line) where
+  pub partway_done : x ≡ 0 → Line f (t + 1) line
   partway_done e =
       record {
         bounded = omega (arith, w.room);
-        listed = sym (append-nil (take len at)) ∙ ap (λ (k : List ℕ). take len at ++ k) (sym (ended_end (events f) (next_event f) w.ended e)) ∙ w.whole;
+        listed = sym (append-nil line) ∙ ap (λ (k : List ℕ). line ++ k) (sym (ended_end (events f) (next_event f) w.ended e)) ∙ w.whole;
       }
 
-  pub partway_in : (x ≡ 0 → ⊥) → (1 ≤ x) × (x ≤ events f) × (len < 48)
+  pub partway_in : (x ≡ 0 → ⊥) → (1 ≤ x) × (x ≤ events f) × (length line < 48)
   partway_in d =
       let (l, v, e, q) = ended_after (events f) (next_event f) x w.ended (omega (arith, d)) in
       (omega (arith, d), q, omega (arith, w.room, ap length e))
 
-  pub partway_more : (x ≡ 0 → ⊥) → (y : ℕ) → y ≡ next_event f x → Partway f t y (len + 1) (set at len x)
-  partway_more d y p =
-      let (l, v, e, q) = ended_after (events f) (next_event f) x w.ended (omega (arith, d)) in
+  pub partway_more : (x ≡ 0 → ⊥) → (y : ℕ) → y ≡ next_event f x → (k : List ℕ) → k ≡ line ++ x ∷ [] → Partway f t y k
+  partway_more d y p longer q =
+      let (l, v, e, r) = ended_after (events f) (next_event f) x w.ended (omega (arith, d)) in
+      let long : length longer ≡ length line + 1 = ap length q ∙ length-append line (x ∷ []) in
       record {
         rest = l;
         ended = subst (λ (z : ℕ). Ended (events f) (next_event f) z l) (sym p) v;
-        long = length-set at len x ∙ w.long;
-        room = omega (arith, w.room, ap length e);
-        whole = rw (add-one len, take-suc-set at len x (omega (arith, w.room, w.long, ap length e)), append_assoc (take len at) (x ∷ []) l)
-            (ap (λ (k : List ℕ). take len at ++ k) (sym e) ∙ w.whole);
+        room = omega (arith, w.room, ap length e, long);
+        whole = ap (λ (k : List ℕ). k ++ l) q ∙ append_assoc line (x ∷ []) l ∙ ap (λ (k : List ℕ). line ++ k) (sym e) ∙ w.whole;
       }
 
 -- Steps of a relation from an event that has none, or only that to b.
@@ -238,129 +221,117 @@ module _ (f : List ℕ) where
 abbrev lined : List ℕ → List ℕ
 lined f = threads_up_to f threads
 
--- Program order made along the line from its end: from place k on the rows are done, the others hold what initial writes come before.
-pub record Backward (f : List ℕ) (len : ℕ) (at : List ℕ) (k : ℕ) (h : List (List ℕ)) : Type 0 where
+-- Program order made along the line from its end: the rows of the events behind are done, the others hold what initial writes come before.
+pub record Backward (f ahead : List ℕ) (h : List (List ℕ)) : Type 0 where
   pub sized : Sized f
   pub sound : threads_sound f ≡ true
-  pub line : Line f threads len at
-  pub all : length at ≡ 64
-  pub high : k ≤ len
+  pub behind : List ℕ
+  pub whole : ahead ++ behind ≡ lined f
   pub long : length h ≡ 64
-  pub done : (m : ℕ) → among m (drop k (lined f)) ≡ true → bit (get_or h m []) ≡ (base nodes (decode f)).po m
-  pub rest : (m : ℕ) → among m (drop k (lined f)) ≡ false → bit (get_or h m []) ≡ product (is_initial f) (is_recorded f) m
+  pub done : (m : ℕ) → among m behind ≡ true → bit (get_or h m []) ≡ (base nodes (decode f)).po m
+  pub rest : (m : ℕ) → among m behind ≡ false → bit (get_or h m []) ≡ product (is_initial f) (is_recorded f) m
 
--- Event e at place k, and b, which follows it.
-pub record Placed (f : List ℕ) (k e b : ℕ) : Type 0 where
+-- An event of the line, and b, which follows it.
+pub record Placed (f behind : List ℕ) (e b : ℕ) : Type 0 where
   pub low : 1 ≤ e
   pub high : e ≤ events f
   pub small : b ≤ events f
-  pub here : drop k (lined f) ≡ e ∷ drop (suc k) (lined f)
-  pub behind : (b ≡ 0) ⊎ (among b (drop (suc k) (lined f)) ≡ true)
+  pub follows : (b ≡ 0) ⊎ (among b behind ≡ true)
   pub next : next_event f e ≡ b
   pub few : events f ≤ 48
 
--- The same of the event before the place j, in the loop.
-abbrev pub PlacedIn : {f : List ℕ} {len : ℕ} {at : List ℕ} {j : ℕ} {h : List (List ℕ)} → Backward f len at j h → ℕ → Type 0
-PlacedIn {f} {len} {at} {j} w b = Placed f (j - 1) (get_or at (j - 1) 0) b
-
-line_length : {f : List ℕ} {len : ℕ} {at : List ℕ} → Line f threads len at → length at ≡ 64 → length (lined f) ≡ len
-line_length {f} {len} {at} line l = ap length (sym line.listed) ∙ length-take-le len at (omega (arith, line.bounded))
-
-pub backward_start : {f : List ℕ} {len : ℕ} {at : List ℕ} (h : List (List ℕ)) {i r : Set} → Sized f → threads_sound f ≡ true → Line f threads len at → length at ≡ 64
-    → length h ≡ 64 → i ≡ is_initial f → r ≡ is_recorded f → edge h ≡ product i r → Backward f len at len h
+pub backward_start : {f line ahead : List ℕ} (h : List (List ℕ)) {i r : Set} → Sized f → threads_sound f ≡ true → Line f threads line → ahead ≡ line
+    → length h ≡ 64 → i ≡ is_initial f → r ≡ is_recorded f → edge h ≡ product i r → Backward f ahead h
 unfolding edge among
-backward_start {f} {len} {at} h s t line l g p q e =
-    let past = drop_of_length-le (lined f) {i = len} (omega (arith, line_length line l)) in
+backward_start {f} {line} {ahead} h s t w z g p q e =
     record {
       sized = s;
       sound = t;
-      line = line;
-      all = l;
-      high = omega arith;
+      behind = [];
+      whole = append-nil ahead ∙ z ∙ w.listed;
       long = g;
-      done = λ m a. absurd (false≢true (sym (ap (among m) past) ∙ a));
+      done = λ m a. absurd (false≢true a);
       rest = λ m a. ap (λ (s : Rel). s m) (e ∙ ap₂ product p q);
     }
 
-module _ {f : List ℕ} {len : ℕ} {at : List ℕ} {j : ℕ} {h : List (List ℕ)} (w : Backward f len at j h) (more : 0 < j) where
-  -- The event that the line has before place j.
-  pub placed : {e b : ℕ} → e ≡ get_or at (j - 1) 0 → b ≡ event_byte f e 0 → Placed f (j - 1) e b
-  unfolding once_each
-  placed {e} {b} p q =
-      let k = j - 1 in
-      let fresh-line = and_left (fresh (events f) [] (lined f)) (all_met (events f) (lined f)) w.sound in
-      let same : get_or (lined f) k 0 ≡ e = ap (λ (y : List ℕ). get_or y k 0) (sym w.line.listed) ∙ get_or-take len at k 0 (omega (arith, w.high)) ∙ sym p in
-      let inside : k < length (lined f) = omega (arith, line_length w.line w.all, w.high) in
-      let onward : Onward (events f) (next_event f) (lined f)
-      = subst (Onward (events f) (next_event f)) (append-nil (lined f)) (met_onward (events f) (next_event f) (head f) threads fresh-line threads (omega arith) [] nil) in
-      let v : Place (events f) (next_event f) (lined f) k e = subst (Place (events f) (next_event f) (lined f) k) same (onward_at (events f) (next_event f) (lined f) k inside onward) in
-      let n : next_event f e ≡ b = sym (q ∙ next_first f e) in
+-- The last event ahead.
+module _ {f ahead : List ℕ} {h : List (List ℕ)} (w : Backward f ahead h) (before : List ℕ) (e : ℕ) (last : ahead ≡ before ++ e ∷ []) where
+  whole_on : before ++ e ∷ w.behind ≡ lined f
+  whole_on = sym (append_assoc before (e ∷ []) w.behind) ∙ ap (λ (l : List ℕ). l ++ w.behind) (sym last) ∙ w.whole
+
+  placed_as : {b : ℕ} → next_event f e ≡ b → Onward (events f) (next_event f) (e ∷ w.behind) → Placed f w.behind e b
+  placed_as {b} n (cons p q r g o) =
       record {
-        low = v.low;
-        high = v.high;
-        small = subst (λ (y : ℕ). y ≤ events f) n v.follows;
-        here = drop-cons (lined f) k 0 inside ∙ ap (λ (y : ℕ). y ∷ drop (suc k) (lined f)) same;
-        behind = subst (λ (y : ℕ). (y ≡ 0) ⊎ (among y (drop (suc k) (lined f)) ≡ true)) n v.behind;
+        low = p;
+        high = q;
+        small = subst (λ (y : ℕ). y ≤ events f) n r;
+        follows = subst (λ (y : ℕ). (y ≡ 0) ⊎ (among y w.behind ≡ true)) n g;
         next = n;
         few = w.sized.most_events;
       }
 
-  module _ {e b : ℕ} (p : Placed f (j - 1) e b) where
-    later : (m : ℕ) → among m (drop (suc (j - 1)) (lined f)) ≡ among m (drop j (lined f))
-    later m = (let up : suc (j - 1) ≡ j = omega arith in ap (λ (i : ℕ). among m (drop i (lined f))) up)
+  pub placed : {b : ℕ} → b ≡ event_byte f e 0 → Placed f w.behind e b
+  unfolding once_each
+  placed {b} q =
+      let fresh-line = and_left (fresh (events f) [] (lined f)) (all_met (events f) (lined f)) w.sound in
+      let onward : Onward (events f) (next_event f) (lined f)
+      = subst (Onward (events f) (next_event f)) (append-nil (lined f)) (met_onward (events f) (next_event f) (head f) threads fresh-line threads (omega arith) [] nil) in
+      placed_as (sym (q ∙ next_first f e))
+      (onward_behind (events f) (next_event f) before (subst (Onward (events f) (next_event f)) (sym whole_on) onward))
 
-    -- what stands from place j - 1 on but not behind it is e
-    others : (m : ℕ) → (m ≡ e → ⊥) → among m (drop (j - 1) (lined f)) ≡ among m (drop j (lined f))
+  module _ {b : ℕ} (p : Placed f w.behind e b) where
+    -- what is e or behind it, but is not e, is behind
+    others : (m : ℕ) → (m ≡ e → ⊥) → among m (e ∷ w.behind) ≡ among m w.behind
     unfolding among
-    others m d = ap (among m) p.here ∙ ap (λ (c : Bool). c || among m (drop (suc (j - 1)) (lined f))) (ne_eqb m e d) ∙ later m
-
-    itself : among e (drop (j - 1) (lined f)) ≡ true
-    itself = ap (among e) p.here ∙ among_here e e (drop (suc (j - 1)) (lined f)) refl
+    others m d = ap (λ (c : Bool). c || among m w.behind) (ne_eqb m e d)
 
     -- the row of e is done, and no other changes
     one_more : (g : List (List ℕ)) → length g ≡ 64 → bit (get_or g e []) ≡ (base nodes (decode f)).po e
-        → ((m : ℕ) → (m ≡ e → ⊥) → bit (get_or g m []) ≡ bit (get_or h m [])) → Backward f len at (j - 1) g
+        → ((m : ℕ) → (m ≡ e → ⊥) → bit (get_or g m []) ≡ bit (get_or h m [])) → Backward f before g
     one_more g l row kept =
         record {
           sized = w.sized;
           sound = w.sound;
-          line = w.line;
-          all = w.all;
-          high = omega (arith, w.high);
+          behind = e ∷ w.behind;
+          whole = whole_on;
           long = l;
           done = λ m a. elim (ℕ_discrete m e) [ yes q ↦ rw q row | no d ↦ kept m d ∙ w.done m (sym (others m d) ∙ a) ];
           rest = λ m a. elim (ℕ_discrete m e) [
-            | yes q ↦ absurd (false≢true (sym a ∙ ap (λ (i : ℕ). among i (drop (j - 1) (lined f))) q ∙ itself))
+            | yes q ↦ absurd (false≢true (sym a ∙ among_here m e w.behind q))
             | no d ↦ kept m d ∙ w.rest m (sym (others m d) ∙ a)
           ];
         }
 
-    pub backward_keep : b ≡ 0 → Backward f len at (j - 1) h
-    backward_keep z = one_more h w.long (row_of (by_test (among e (drop j (lined f))))) (λ m d. refl)
+    pub backward_keep : b ≡ 0 → Backward f before h
+    backward_keep z = one_more h w.long (row_of (by_test (among e w.behind))) (λ m d. refl)
       where
-        row_of : (among e (drop j (lined f)) ≡ true) ⊎ (among e (drop j (lined f)) ≡ false) → bit (get_or h e []) ≡ (base nodes (decode f)).po e
+        row_of : (among e w.behind ≡ true) ⊎ (among e w.behind ≡ false) → bit (get_or h e []) ≡ (base nodes (decode f)).po e
         row_of (inl a) = w.done e a
         row_of (inr a) = w.rest e a ∙ po_none f e (next_last f e (p.next ∙ z))
 
-    pub backward_with : (b ≡ 0 → ⊥) → (v : List ℕ) → bit v ≡ union (bit (get_or h b [])) (single b) → Backward f len at (j - 1) (set h e v)
+    pub backward_with : (b ≡ 0 → ⊥) → (v : List ℕ) → bit v ≡ union (bit (get_or h b [])) (single b) → Backward f before (set h e v)
     backward_with d v q =
         one_more (set h e v) (length-set h e v ∙ w.long)
         (ap bit (get_or-set_same h e v [] (omega (arith, w.long, p.high, p.few))) ∙ row_of) (λ m g. ap bit (get_or-set_other h e m v [] g))
       where
-        among_b : among b (drop j (lined f)) ≡ true
-        among_b = elim p.behind [ inl z ↦ absurd (d z) | inr a ↦ sym (later b) ∙ a ]
+        among_b : among b w.behind ≡ true
+        among_b = elim p.follows [ inl z ↦ absurd (d z) | inr a ↦ a ]
 
         row_of : bit v ≡ (base nodes (decode f)).po e
         row_of =
             q ∙ ap (λ (t : Set). union t (single b)) (w.done b among_b)
             ∙ po_step f w.sized e b (recorded_is f e p.low p.high) (recorded_is f b (omega (arith, d)) p.small) p.next
 
-pub backward_all : {f : List ℕ} {len : ℕ} {at : List ℕ} {k : ℕ} {h : List (List ℕ)} → k ≤ 0 → Backward f len at k h → edge h ≡ (base nodes (decode f)).po
+pub backward_all : {f ahead : List ℕ} {h : List (List ℕ)} → length ahead ≡ 0 → Backward f ahead h → edge h ≡ (base nodes (decode f)).po
 unfolding edge once_each
-backward_all {f} {len} {at} {k} {h} z w = fun_ext (λ m. row m (by_test (among m (lined f))))
+backward_all {f} {ahead} {h} z w = fun_ext (λ m. row m (by_test (among m (lined f))))
   where
-    whole : (m : ℕ) → among m (drop k (lined f)) ≡ among m (lined f)
-    whole m = (let e : k ≡ 0 = omega (arith, z) in ap (λ (i : ℕ). among m (drop i (lined f))) e)
+    none_ahead : (l : List ℕ) → length l ≡ 0 → l ++ w.behind ≡ w.behind
+    none_ahead [] e = refl
+    none_ahead (x ∷ l) e = absurd (omega (arith, e))
+
+    all_behind : (m : ℕ) → among m w.behind ≡ among m (lined f)
+    all_behind m = ap (among m) (sym (none_ahead ahead z) ∙ w.whole)
 
     unrecorded : (m : ℕ) → among m (lined f) ≡ false → is_recorded f m ≡ false
     unrecorded m a =
@@ -369,5 +340,5 @@ backward_all {f} {len} {at} {k} {h} z w = fun_ext (λ m. row m (by_test (among m
         false≢true (sym a ∙ each_at (events f) (λ x. among x (lined f)) (and_right (fresh (events f) [] (lined f)) _ w.sound) m low high))
 
     row : (m : ℕ) → (among m (lined f) ≡ true) ⊎ (among m (lined f) ≡ false) → bit (get_or h m []) ≡ (base nodes (decode f)).po m
-    row m (inl a) = w.done m (whole m ∙ a)
-    row m (inr a) = w.rest m (whole m ∙ a) ∙ po_none f m (next_none f m (unrecorded m a))
+    row m (inl a) = w.done m (all_behind m ∙ a)
+    row m (inr a) = w.rest m (all_behind m ∙ a) ∙ po_none f m (next_none f m (unrecorded m a))

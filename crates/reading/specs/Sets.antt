@@ -1,5 +1,5 @@
 -- What arrays of rows hold of a file: its events by a byte of their records, its accesses by location, its links by type.
-use Rattle.std.specs.Prelude.{◌≡◌, true, ◌&&◌, List, [], ℕ, ◌≤◌, ◌<◌, eqb, length, get_or, take}
+use Rattle.std.specs.Prelude.{◌≡◌, true, ◌&&◌, List, [], ℕ, ◌≤◌, ◌<◌, eqb, length, get_or, Option, Some, None, false}
 use Rattle.relation.specs.Rel.{Set, intersection, inverse}
 use Rattle.relation.specs.Bits.{bit, edge}
 use Rattle.models.specs.Recording.{access}
@@ -10,6 +10,11 @@ use Rattle.layout.specs.Decode.{is_recorded, decode}
 -- The reads and writes of location l.
 unfoldable pub access_at : List ℕ → ℕ → Set
 access_at f l e = access (decode f) e && eqb ((decode f).location e) l
+
+-- The location of e, where it is a read or write of a location below 8.
+abbrev pub PlaceOf : List ℕ → ℕ → Option ℕ → Type 0
+PlaceOf f e None = (m : ℕ) → m < 8 → access_at f m e ≡ false
+PlaceOf f e (Some l) = (l < 8) × ((m : ℕ) → m < 8 → access_at f m e ≡ eqb l m)
 
 -- The numbers of which byte k of the event record is v.
 unfoldable pub holding : List ℕ → ℕ → ℕ → Set
@@ -42,7 +47,7 @@ pub record SourcesInto (f : List ℕ) (b : ℕ) (rows : List (List ℕ)) : Type 
 pub record LinkRows (f : List ℕ) (grids : List (List (List ℕ))) : Type 0 where
   pub grid : (t : ℕ) → 1 ≤ t → t < 8 → edge (get_or grids t []) ≡ inverse ((decode f).link t)
 
--- The first len of `at` are the events of the first n threads, each thread in its order, one thread behind the other.
-pub record Line (f : List ℕ) (n : ℕ) (events : List ℕ) : Type 0 where
-  pub bounded : length events ≤ 64
-  pub listed : events ≡ threads_up_to f n
+-- The list holds the events of the first n threads, each thread in its order, one thread behind the other.
+pub record Line (f : List ℕ) (n : ℕ) (line : List ℕ) : Type 0 where
+  pub bounded : length line ≤ 64
+  pub listed : line ≡ threads_up_to f n

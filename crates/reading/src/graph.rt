@@ -1,6 +1,6 @@
 // The relations of a file's recording, as rows and grids.
 
-ghost use Rattle.std.specs.Prelude.{◌≡◌, true, ℕ, ◌<◌, eqb};
+ghost use Rattle.std.specs.Prelude.{◌≡◌, true};
 ghost use Rattle.relation.specs.Bits.{bit, edge};
 ghost use Rattle.relation.specs.Rel.{nodes, inverse};
 ghost use Rattle.models.specs.Recording.{same_location, co_step};
@@ -9,7 +9,7 @@ ghost use Rattle.layout.specs.Layout.{Sized};
 ghost use Rattle.layout.specs.Chains.{threads_sound};
 ghost use Rattle.layout.specs.Decode.{decode};
 ghost use Rattle.reading.specs.Readable.{Readable};
-ghost use Rattle.reading.specs.Sets.{access_at, Located, AccessRows, SourcesInto, LinkRows};
+ghost use Rattle.reading.specs.Sets.{PlaceOf, Located, AccessRows, SourcesInto, LinkRows};
 
 use crate::{links, sets, thread};
 use layout::field;
@@ -53,7 +53,7 @@ pub fn sources_by_type(file: &[u8], b: usize) -> [Row; 8]
     ensures { SourcesInto file.now b result }
 {
     if !field::is_recorded(file, b) {
-        return [[0u8; 8]; 8];
+        return [row::none(); 8];
     }
     links::by_type(file, b)
 }
@@ -63,26 +63,14 @@ pub fn rows_by_type(file: &[u8]) -> [Grid; 8]
     requires { Readable file.now }
     ensures { LinkRows file.now result }
 {
-    let mut rf = grid::empty();
-    let mut co = grid::empty();
-    let mut rmw = grid::empty();
-    let mut data = grid::empty();
-    let mut addr = grid::empty();
-    let mut ctrl = grid::empty();
-    let mut casdep = grid::empty();
-    let mut b: usize = 0;
-    while b < 64 {
+    let mut rows = [grid::empty(); 8];
+    for b in 0..64 {
         let sources = sources_by_type(file, b);
-        rf[b] = sources[1];
-        co[b] = sources[2];
-        rmw[b] = sources[3];
-        data[b] = sources[4];
-        addr[b] = sources[5];
-        ctrl[b] = sources[6];
-        casdep[b] = sources[7];
-        b += 1;
+        for t in 1..8 {
+            rows[t][b] = sources[t];
+        }
     }
-    [grid::empty(), rf, co, rmw, data, addr, ctrl, casdep]
+    rows
 }
 
 // The links of type t, with a row for each target.
@@ -90,13 +78,11 @@ pub fn link_rows(file: &[u8], t: usize) -> Grid
     requires { Readable file.now }
     ensures { edge result ≡ inverse ((decode file.now).link t) }
 {
-    let mut h = grid::empty();
-    let mut b: usize = 0;
-    while b < 64 {
-        h[b] = sources_of(file, b, t);
-        b += 1;
+    let mut rows = grid::empty();
+    for b in 0..64 {
+        rows[b] = sources_of(file, b, t);
     }
-    h
+    rows
 }
 
 // The links of type t.
@@ -107,19 +93,16 @@ pub fn links(file: &[u8], t: usize) -> Grid
     grid::inverse(link_rows(file, t))
 }
 
-// The location of a read or write, where it is below 8; 8 for what is no such event.
-pub fn place_of(file: &[u8], e: usize) -> usize
+// The location of a read or write, where it is below 8.
+pub fn place_of(file: &[u8], e: usize) -> Option<usize>
     requires { Sized file.now }
-    ensures { (l : ℕ) → l < 8 → access_at file.now l e ≡ eqb result l }
+    ensures { PlaceOf file.now e result }
 {
     if !field::is_access(file, e) {
-        return 8;
+        return None;
     }
     let l = field::location_of(file, e);
-    if 8 <= l {
-        return 8;
-    }
-    l
+    if l < 8 { Some(l) } else { None }
 }
 
 // The reads and writes of each location below 8.
@@ -127,18 +110,14 @@ pub fn by_location(file: &[u8]) -> [Row; 8]
     requires { Sized file.now }
     ensures { AccessRows file.now result }
 {
-    let n = field::events(file);
-    let mut h = [[0u8; 8]; 8];
-    let mut e: usize = 0;
-    while e < 64 {
-        let l = place_of(file, e);
-        if l < 8 {
-            let x = h[l];
-            h[l] = row::with(x, e);
+    let mut rows = [row::none(); 8];
+    for e in 0..64 {
+        if let Some(l) = place_of(file, e) {
+            let x = rows[l];
+            rows[l] = row::with(x, e);
         }
-        e = field::following(n, e);
     }
-    h
+    rows
 }
 
 // The reads and writes of the same location.
@@ -146,16 +125,12 @@ pub fn same_location(file: &[u8]) -> Grid
     requires { Sized file.now × Located file.now }
     ensures { edge result ≡ same_location (decode file.now) }
 {
-    let n = field::events(file);
     let rows = by_location(file);
     let mut h = grid::empty();
-    let mut e: usize = 0;
-    while e < 64 {
-        let l = place_of(file, e);
-        if l < 8 {
+    for e in 0..64 {
+        if let Some(l) = place_of(file, e) {
             h[e] = rows[l];
         }
-        e = field::following(n, e);
     }
     h
 }

@@ -31,13 +31,13 @@ pub fn sorted(file: &[u8], row: Row, k: usize) -> [Row; 8]
     requires { Sized file.now × (k < 8) × AllRecorded file.now (bit row) }
     ensures { SortedBy file.now (bit row) k result }
 {
-    let mut h = [[0u8; 8]; 8];
+    let mut rows = [row::none(); 8];
     for e in row::members(row) {
         let v = field::event_byte(file, e, k);
         if v < 8 {
-            let x = h[v];
-            h[v] = row::with(x, e);
+            let x = rows[v];
+            rows[v] = row::with(x, e);
         }
     }
-    h
+    rows
 }

@@ -18,19 +18,16 @@ pub fn length_of(file: &[u8], t: usize) -> usize
     chain::count(file, 8, 8, n, Cursor::start(file, 4, 1, t))
 }
 
-// The line of the first t threads with the events of thread t behind it.
-pub fn along(file: &[u8], t: usize, line: Events) -> Events
-    requires { Sized file.now × (threads_sound file.now ≡ true) × (t < threads) × Line file.now t line.items }
-    ensures { Line file.now (t + 1) result.items }
+// Puts the events of thread t behind the line of the first t threads.
+pub fn along(file: &[u8], t: usize, line: &mut Events)
+    requires { Sized file.now × (threads_sound file.now ≡ true) × (t < threads) × Line file.now t line.old.items }
+    ensures { Line file.now (t + 1) line.new.items }
 {
-    let mut events = line;
     let mut cursor = Cursor::start(file, 4, 1, t);
     while cursor.at != 0 {
-        events.push(cursor.at as u8);
-        let next = cursor.moved(file, 8, 8);
-        cursor = next;
+        line.push(cursor.at as u8);
+        cursor = cursor.moved(file, 8, 8);
     }
-    events
 }
 
 // The events of all threads, each thread in its order, one thread behind the other.
@@ -38,9 +35,9 @@ pub fn line(file: &[u8]) -> Events
     requires { Sized file.now × (threads_sound file.now ≡ true) }
     ensures { Line file.now threads result.items }
 {
-    let mut events = Events::new();
+    let mut line = Events::new();
     for t in 0..4 {
-        events = along(file, t, events);
+        along(file, t, &mut line);
     }
-    events
+    line
 }

@@ -1,23 +1,16 @@
--- `chain::all_marked` meets its contract, number by number.
-use mathlib.Core.Path.{refl, ap}
-use mathlib.Core.Bool.{not}
+-- `chain::all_marked` meets its contract: what `all` answers of the marks of 1 to limit.
+use mathlib.Core.Path.{ap, ◌∙◌}
+use mathlib.Core.Bool.{Bool}
 use native.Mathlib.Omega.{arith}
-use borrow.Author.Tests.{eq-eqb, ne_eqb}
-use Rattle.layout.proofs.EachLaws.{passed_none, passed_more, passed_fails, passed_all}
-use borrow.Author.Rules.{rules}
+use Rattle.std.proofs.Common.{rules, tests}
+use Rattle.std.specs.List.{list_all}
+use Rattle.std.proofs.lemmas.Iterator.{YieldsList-from_slice}
+use Rattle.std.proofs.lemmas.Iterator.Search.{all_from_yields_List}
+use Rattle.layout.proofs.ChainLaws.{marked_each}
 use Rattle.layout.proofs.chain.all_marked.Goals as goal
 
-pub loop-x-init : goal.loop-x-init
-loop-x-init c = (search rules, λ l w. passed_none _ refl)
-
-pub returns-then-marks-x-ne1 : goal.returns-then-marks-x-ne1
-returns-then-marks-x-ne1 c =
-    λ l w. passed_fails (c.loop-x.invariant.1 l w) c.loop-x-test.true (w.each _ (omega arith)) (ap not (ne_eqb _ _ c.if-marks-x-ne1.true))
-
-pub loop-x-preserved : goal.loop-x-preserved
-loop-x-preserved c =
-    let inv = c.loop-x.invariant in
-    (inv.0, λ l w. passed_more (inv.1 l w) c.loop-x-test.true (w.each _ (omega arith)) (ap not (eq-eqb _ _ c.if-marks-x-ne1.false)))
-
 pub returns : goal.returns
-returns c = λ l w. passed_all (c.loop-x.invariant.1 l w) c.loop-x-test.false
+returns c =
+    λ l w.
+    let h = all_from_yields_List (λ b. b) _ _ c.all.result c.all.ensures.ran (YieldsList-from_slice c.iter.result.rest.now cc) (λ x b q k. search (rules, tests)) in
+    h ∙ ap (list_all (λ (b : Bool). b)) c.iter.ensures.rest ∙ marked_each l c.args.marks.now c.args.limit _ c.requires w (omega arith)

@@ -1,11 +1,7 @@
 -- `graph::co_steps` meets its contract, call by call.
 use Rattle.reading.proofs.GraphLaws.{co_is}
-use Rattle.reading.proofs.SortLaws.{all_recorded, recorded_writes}
-use borrow.Author.Rules.{rules}
+use Rattle.reading.proofs.SortLaws.{recorded_writes}
 use Rattle.reading.proofs.graph.co_steps.Goals as goal
-
-pub sorted-classes-requires : goal.sorted-classes-requires
-sorted-classes-requires c = (c.requires.0, search rules, all_recorded _ _ c.recorded.ensures)
 
 pub returns : goal.returns
 returns c =

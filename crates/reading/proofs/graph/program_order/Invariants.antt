@@ -1,14 +1,8 @@
-use Rattle.std.proofs.Common.{◌≡◌, true, ℕ, ◌<◌, eqb, ◌+◌, ◌-◌, ◌*◌, ◌≤◌, length}
-use Rattle.relation.specs.Bits.{bit, edge}
-use Rattle.relation.specs.Rel.{nodes, inverse}
-use Rattle.models.specs.Recording.{same_location, co_step}
-use Rattle.models.specs.Graph.{base}
-use Rattle.layout.specs.Layout.{Sized}
-use Rattle.layout.specs.Chains.{threads_sound}
-use Rattle.layout.specs.Decode.{decode}
-use Rattle.reading.specs.Readable.{Readable}
-use Rattle.reading.specs.Sets.{access_at, Located, AccessRows, SourcesInto, LinkRows}
+-- `graph::program_order` meets its contract: from the end of the line on, the row of each event.
+use Rattle.std.specs.Iterator.Adapters.{rev_source}
+use Rattle.std.specs.Slice.Iter.{iter_rest}
+use Rattle.reading.proofs.ThreadLaws.{Backward}
 use Rattle.reading.proofs.graph.program_order.Given as goal
 
 abbrev pub invariant-loop-event : goal.invariant-loop-event
-invariant-loop-event l = ?
+invariant-loop-event l = (goal.iterator-loop-event).can_next l.event-iterator × (goal.iterator-loop-event).is_finite l.event-iterator × Backward l.file (iter_rest (rev_source l.event-iterator)) l.h

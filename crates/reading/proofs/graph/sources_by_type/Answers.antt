@@ -5,7 +5,7 @@ use Rattle.reading.proofs.GraphLaws.{sources_none}
 use Rattle.reading.proofs.graph.sources_by_type.Goals as goal
 
 pub returns-then-not-is_recorded : goal.returns-then-not-is_recorded
-returns-then-not-is_recorded c = sources_none _ _ (sym c.is_recorded.ensures ∙ c.if-not-is_recorded.true)
+returns-then-not-is_recorded c = sources_none _ _ _ c.none.ensures (sym c.is_recorded.ensures ∙ c.if-not-is_recorded.true)
 
 pub by_type-requires : goal.by_type-requires
 by_type-requires c =

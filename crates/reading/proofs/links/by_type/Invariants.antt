@@ -1,10 +1,8 @@
--- `links::by_type` meets its contract: those sorted and those left are all.
-use Rattle.reading.specs.Readable.{readable}
-use Rattle.reading.proofs.LinkLaws.{LinkWalk, Sorted}
+-- `links::by_type` meets its contract, link by link.
+use lib.ListN.{take}
+use Rattle.layout.specs.Layout.{Sized}
+use Rattle.reading.proofs.LinkLaws.{Listed, Sorted}
 use Rattle.reading.proofs.links.by_type.Given as goal
 
-abbrev pub invariant-loop-n : goal.invariant-loop-n
-invariant-loop-n l = LinkWalk l.file (readable l.file) l.b l.from l.n l.cursor.at × Sorted l.file l.b l.n l.cursor.at l.h
-
-abbrev pub decreases-loop-n : goal.decreases-loop-n
-decreases-loop-n l = l.n
+abbrev pub invariant-loop-link : goal.invariant-loop-link
+invariant-loop-link l = Sized l.file × Listed l.file l.b l.link-items × Sorted l.file (take l.link-index l.link-items) l.rows

@@ -1,11 +1,9 @@
--- `links::sources` meets its contract: those taken and those left are all.
+-- `links::sources` meets its contract, link by link.
+use lib.ListN.{take}
 use Rattle.relation.specs.Bits.{bit}
-use Rattle.reading.specs.Readable.{readable}
-use Rattle.reading.proofs.LinkLaws.{LinkWalk, Taken}
+use Rattle.layout.specs.Layout.{Sized}
+use Rattle.reading.proofs.LinkLaws.{Listed, Gathered}
 use Rattle.reading.proofs.links.sources.Given as goal
 
-abbrev pub invariant-loop-n : goal.invariant-loop-n
-invariant-loop-n l = LinkWalk l.file (readable l.file) l.b l.from l.n l.cursor.at × Taken l.file l.t l.b l.n l.cursor.at (bit l.r)
-
-abbrev pub decreases-loop-n : goal.decreases-loop-n
-decreases-loop-n l = l.n
+abbrev pub invariant-loop-link : goal.invariant-loop-link
+invariant-loop-link l = Sized l.file × Listed l.file l.b l.link-items × Gathered l.file l.t (take l.link-index l.link-items) (bit l.row)

@@ -1,33 +1,12 @@
-use Rattle.std.proofs.Common.{rules, ◌≡◌, true, ◌+◌, ◌<◌, length, ℕ, ◌-◌, ◌*◌, ◌≤◌, ◌/◌, ◌%◌, Bool, false, nat_eq, nat_lt, List, [], ◌∷◌, ◌++◌, slice_index_or, slice_set, bit_and, bit_or, Fits, w8, w32, w64, Bor, MutBor}
-use Rattle.layout.specs.Layout.{threads, Sized}
-use Rattle.layout.specs.Chains.{thread, threads_sound}
-use Rattle.reading.specs.Sets.{Line}
+-- `thread::along` meets its contract: what is in the line and what is left of the chain are all.
+use Rattle.reading.proofs.ThreadLaws.{partway_start, partway_more}
 use Rattle.reading.proofs.thread.along.Goals as goal
 
--- src/thread.rt:28:5
 pub loop-cursor-init : goal.loop-cursor-init
-loop-cursor-init c = ?
+loop-cursor-init c =
+    let pre = c.requires in (pre.0, partway_start _ pre.0 pre.1 _ _ _ pre.2 pre.3 c.start-cursor.ensures.0)
 
--- src/thread.rt:29:21
-pub overflow_cast-cursor : goal.overflow_cast-cursor
-overflow_cast-cursor c = ?
-
--- src/thread.rt:29:9
-pub push-requires : goal.push-requires
-push-requires c = ?
-
--- src/thread.rt:30:13
-pub moved-next-requires : goal.moved-next-requires
-moved-next-requires c = ?
-
--- src/thread.rt:28:5
-pub loop-cursor-smaller : goal.loop-cursor-smaller
-loop-cursor-smaller c = ?
-
--- src/thread.rt:28:5
 pub loop-cursor-preserved : goal.loop-cursor-preserved
-loop-cursor-preserved c = ?
-
--- src/thread.rt:22:1
-pub returns : goal.returns
-returns c = ?
+loop-cursor-preserved c =
+    let inv = c.loop-cursor.invariant in
+    (inv.0, partway_more _ _ _ _ inv.1 c.loop-cursor-test.true _ c.moved-cursor.ensures.0 _ c.push.ensures.items)

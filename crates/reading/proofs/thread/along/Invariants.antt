@@ -1,12 +1,12 @@
-use Rattle.std.proofs.Common.{◌≡◌, true, ◌+◌, ◌<◌, length, ℕ, ◌-◌, ◌*◌, ◌≤◌}
-use Rattle.layout.specs.Layout.{threads, Sized}
-use Rattle.layout.specs.Chains.{thread, threads_sound}
-use Rattle.reading.specs.Sets.{Line}
+-- `thread::along` meets its contract: what is in the line and what is left of the chain are all.
+use Prim.Native.Nat.{◌-◌}
+use lib.ListN.{length}
+use Rattle.layout.specs.Layout.{Sized}
+use Rattle.reading.proofs.ThreadLaws.{Partway}
 use Rattle.reading.proofs.thread.along.Given as goal
 
 abbrev pub invariant-loop-cursor : goal.invariant-loop-cursor
-invariant-loop-cursor l = ?
+invariant-loop-cursor l = Sized l.file × Partway l.file l.t l.cursor.at l.line.items
 
--- proposed from the loop's first test
 abbrev pub decreases-loop-cursor : goal.decreases-loop-cursor
-decreases-loop-cursor l = l.cursor.at
+decreases-loop-cursor l = 64 - length l.line.items

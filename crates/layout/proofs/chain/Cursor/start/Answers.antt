@@ -1,13 +1,8 @@
 -- `chain::Cursor::start` meets its contract.
-use mathlib.Core.Path.{refl}
-use Prim.Native.Nat.{◌+◌, ◌*◌}
-use native.Mathlib.Omega.{arith}
+use borrow.Author.Rules.{rules}
 use Rattle.layout.specs.Chains.{start_of}
 use Rattle.layout.proofs.chain.Cursor.start.Goals as goal
 
-pub overflow_cast-result : goal.overflow_cast-result
-overflow_cast-result c = omega (arith, c.shared_slice_known-1.given (c.args.from + c.args.size * c.args.j))
-
 pub returns : goal.returns
 unfolding start_of
-returns c = (refl, omega (arith, c.shared_slice_known-1.given (c.args.from + c.args.size * c.args.j)))
+returns c = search rules
