@@ -16,9 +16,8 @@ use Rattle.models.specs.Rules.{Model, verdict}
 use Rattle.models.specs.Clause.{Clause, tested, number_from, unions}
 use Rattle.models.specs.Why.{Clauses, clauses_of}
 use Rattle.models.proofs.ClauseLaws.{first_clause}
-use Rattle.verdict.specs.declared.Verdict.{Verdict}
-use Rattle.verdict.specs.Answer.{rule_of, answers}
-use Rattle.verdict.specs.Shown.{events, Shown}
+use Rattle.verdict.specs.Verdict.{Verdict, rule_of, events}
+use Rattle.verdict.specs.Shown.{Shown}
 use Rattle.clause.specs.Steps.{ring, steps_of, Explained, StepsBy}
 
 module _ (r : Recording ℕ) (within : Within nodes r) where
@@ -47,32 +46,21 @@ module _ (r : Recording ℕ) (within : Within nodes r) where
   -- The ring of a verdict, by the rule that is broken.
   module _ (C : Clauses) (M : Model) (s e : Rel) (covers-3 : Covers C.rule3 s) (closes-3 : Covers C.rule3 e)
       (covers-5 : Covers C.rule5 (eval nodes M.order (base nodes r))) (v : Verdict) (w : Shown s e M (base nodes r) v) where
-    abbrev number : ℕ
-    number = verdict nodes (base nodes r) M
-
-    rule : rule_of v.answer ≡ number
-    unfolding rule_of
-    rule = ap rule_of w.answer ∙ own number
-      where
-        own : (n : ℕ) → rule_of (answers n) ≡ n
-        own zero = refl
-        own (suc n) = refl
-
     abbrev Goal : ℕ → List ℕ → Type 0
     Goal n l = Explained (clauses_of C n) r l (steps (clauses_of C n) l)
 
-    explained : Goal (rule_of v.answer) (ring v)
+    explained : Goal (rule_of v) (ring v)
     unfolding clauses_of ring
     explained =
-        elim (ℕ_discrete (rule_of v.answer) 3) [
-          | yes p ↦ rw (p, ring) (ring_explained C.rule3 s e (events v) covers-3 closes-3 (w.broken3 (sym rule ∙ p)).ring)
-          | no p ↦ elim (ℕ_discrete (rule_of v.answer) 5) [
-            | yes q ↦ rw (q, ring) (ring_explained C.rule5 _ _ (events v) covers-5 covers-5 (w.broken5 (sym rule ∙ q)).ring)
+        elim (ℕ_discrete (rule_of v) 3) [
+          | yes p ↦ rw (p, ring) (ring_explained C.rule3 s e (events v) covers-3 closes-3 (w.broken3 (sym w.answer ∙ p)).ring)
+          | no p ↦ elim (ℕ_discrete (rule_of v) 5) [
+            | yes q ↦ rw (q, ring) (ring_explained C.rule5 _ _ (events v) covers-5 covers-5 (w.broken5 (sym w.answer ∙ q)).ring)
             | no q ↦ rw (ne_eqb _ 3 p, ne_eqb _ 5 q, ring) (none_explained _)
           ]
         ]
 
     -- The steps that are computed of the verdict.
-    pub verdict_explained : (found : List (List ℕ)) → StepsBy (clauses_of C (rule_of v.answer)) (base nodes r) v found
-        → Explained (clauses_of C (rule_of v.answer)) r (ring v) (take (length (ring v)) found)
-    verdict_explained found e = subst (Explained (clauses_of C (rule_of v.answer)) r (ring v)) (sym e) explained
+    pub verdict_explained : (found : List (List ℕ)) → StepsBy (clauses_of C (rule_of v)) (base nodes r) v found
+        → Explained (clauses_of C (rule_of v)) r (ring v) found
+    verdict_explained found e = subst (Explained (clauses_of C (rule_of v)) r (ring v)) (sym e) explained

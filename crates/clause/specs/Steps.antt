@@ -1,6 +1,6 @@
 -- The steps of a ring that a verdict shows, each with the number of its clause, and the arrays that hold clauses.
-use Rattle.std.specs.Prelude.{true, false, ◌||◌, ◌≡◌, List, [], ◌∷◌, ◌++◌, map, ℕ, zero, suc, ◌-◌, ◌<◌, eqb, length, get_or, take}
-use Rattle.relation.specs.Rel.{Rel, none, nodes}
+use Rattle.std.specs.Prelude.{true, false, ◌||◌, ◌≡◌, List, [], ◌∷◌, ◌++◌, map, ℕ, zero, suc, ◌<◌, eqb, length, get_or}
+use Rattle.relation.specs.Rel.{nodes}
 use Rattle.relation.specs.Bits.{edge}
 use Rattle.relation.specs.Ring.{after}
 use Rattle.models.specs.Recording.{Recording}

@@ -14,8 +14,7 @@ ghost use Rattle.clause.specs.Steps.{ring, steps_of, Held, StepsBy};
 use arrayvec::ArrayVec;
 use relation::grid;
 use relation::grid::Grid;
-use verdict::base;
-use verdict::{Broken, Rule, Verdict};
+use verdict::{Rule, Verdict, base};
 
 // The steps of a ring: two events and the number of a clause.
 pub type Steps = ArrayVec<[u8; 3], 64>;
@@ -60,7 +59,11 @@ fn steps(ring: &[u8], clauses: &[Grid]) -> Steps
     let mut steps = Steps::new();
     for k in 0..ring.len() {
         let a = ring[k];
-        let b = if k + 1 < ring.len() { ring[k + 1] } else { ring[0] };
+        let b = if k + 1 < ring.len() {
+            ring[k + 1]
+        } else {
+            ring[0]
+        };
         steps.push([a, b, number(clauses, a, b)]);
     }
     steps
@@ -71,9 +74,12 @@ pub fn ring_of(verdict: &Verdict) -> &[u8]
     ensures ring { result.now ≡ ring verdict.now }
     ensures bounded { length result.now ≤ 64 }
 {
-    match verdict {
-        Err(Broken { rule: Rule::Coherence | Rule::Acyclicity, events }) => events.as_slice(),
-        _ => &[],
+    let Err(broken) = verdict else {
+        return &[];
+    };
+    match broken.rule {
+        Rule::Coherence | Rule::Acyclicity => broken.events.as_slice(),
+        Rule::Reads | Rule::Writes | Rule::Atomicity => &[],
     }
 }
 

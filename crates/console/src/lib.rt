@@ -11,6 +11,8 @@ use recording::INPUT;
 use std::io::{Read, Write};
 
 // Reads an input into the array, until the input ends or the array is full; answers how many bytes were read.
+// A loop by hand: std's `read_exact` does not say how many bytes there were where the input ends before the array is full, and `read_to_end`
+// reads into a Vec.
 pub fn read<R: Read>(from: &mut R, start: &mut [u8; INPUT]) -> Result<usize>
     ensures { IfOk result (λ n. n ≤ 1413) }
 {
@@ -33,10 +35,6 @@ pub fn write<W: Write>(to: &mut W, bytes: &[u8]) -> Result<()> {
 }
 
 // Writes a text, as `write` does.
-pub fn print<W: Write>(to: &mut W, text: Text) -> Result<()>
-    requires { text.len ≤ 320 }
-{
-    let at = text.at;
-    let n = text.len;
-    write(to, &at[..n])
+pub fn print<W: Write>(to: &mut W, text: &Text) -> Result<()> {
+    write(to, text.as_slice())
 }

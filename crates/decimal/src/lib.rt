@@ -13,10 +13,11 @@ fn column(power: usize, n: usize) -> u8
     if n < power {
         return b' ';
     }
-    48 + (n / power % 10) as u8
+    b'0' + (n / power % 10) as u8
 }
 
-// n in five columns, right-aligned: of a longer number the last five digits.
+// n in five columns, right-aligned: of a longer number the last five digits. Each column is made by itself, since `{:5}` writes to a
+// formatter, makes a longer number wider, and has no clause that says what stands in each column.
 pub fn aligned(n: usize) -> [u8; 5]
     ensures { result ≡ aligned 5 n }
 {
@@ -25,6 +26,6 @@ pub fn aligned(n: usize) -> [u8; 5]
         column(1000, n),
         column(100, n),
         column(10, n),
-        48 + (n % 10) as u8,
+        b'0' + (n % 10) as u8,
     ]
 }

@@ -1,13 +1,14 @@
--- The arrays of a recording hold its base.
+-- What the arrays of a recording hold is its base, and what follows for a verdict over them.
 use mathlib.Core.Path.{◌≡◌, sym, ap, subst, ◌∙◌}
 use mathlib.Core.List.{List, []}
-use Prim.Native.Nat.{ℕ, suc, ◌≤◌, ◌<◌}
-use native.Mathlib.Omega.{arith}
+use Prim.Native.Nat.{ℕ, ◌≤◌, ◌<◌}
 use lib.ListN.{get_or}
+use Rattle.std.specs.Prelude.{Ok, Err}
 use Rattle.relation.specs.Rel.{Rel, inverse, nodes}
 use Rattle.relation.specs.Bits.{edge}
 use Rattle.models.specs.Recording.{Recording}
-use Rattle.models.specs.Graph.{Base, base}
+use Rattle.models.specs.Graph as graph
+use Rattle.models.specs.Graph.{base}
 use Rattle.layout.specs.Layout.{Side}
 use Rattle.layout.specs.Decode.{decode}
 use Rattle.recording.specs.Causes.{refusal}
@@ -16,19 +17,19 @@ use Rattle.reading.specs.Sets.{LinkRows}
 use Rattle.models.specs.Rules.{Model, verdict}
 use Rattle.models.specs.Clause.{Clause}
 use Rattle.models.proofs.Agree.{recording_verdict}
-use Rattle.recording.proofs.CauseLaws.{cause_own}
 use Rattle.recording.proofs.Loaded.{loaded_within}
-use Rattle.verdict.specs.Answer.{refuses, answers}
-use Rattle.verdict.specs.declared.Verdict.{Verdict}
+use Rattle.refusal.specs.declared.Refusal.{Refusal}
+use Rattle.refusal.specs.Refusal.{number}
+use Rattle.verdict.specs.declared.base.Base.{Base}
+use Rattle.verdict.specs.Verdict.{Verdict, rule_of}
 use Rattle.verdict.specs.Base.{base_of}
 use Rattle.clause.specs.Steps.{StepsBy}
 use Rattle.execution.specs.Arrays.{SetsOf, RelationsOf}
 use Rattle.execution.specs.OnFile.{OnRecording, OnFile}
 
-pub base_of_lem : (r : Recording ℕ) (sets : List (List ℕ)) (relations : List (List (List ℕ))) → SetsOf r sets → RelationsOf (base nodes r) relations
-    → base_of sets relations ≡ base nodes r
+pub base_of_lem : (r : Recording ℕ) (b : Base) → SetsOf r b → RelationsOf (base nodes r) b → base_of b ≡ base nodes r
 unfolding base_of base
-base_of_lem r sets relations s t =
+base_of_lem r b s t =
     λ i. record {
       E = s.events i;
       Init = s.initial i;
@@ -50,13 +51,12 @@ pub links_of : {f : List ℕ} {rows : List (List (List ℕ))} → LinkRows f row
 unfolding inverse
 links_of w t h k p = p ∙ ap inverse (w.grid t h k)
 
--- A verdict over the arrays of a file that loads is one on its recording.
-module _ (M : Model) (Judged : Base → Verdict → Type 0) (f : List ℕ) (v : Verdict) where
-  pub on_recording : refusal f ≡ 0 → ((B : Base) → Judged B v → v.answer ≡ answers (verdict nodes B M)) → (sets : List (List ℕ))
-      (relations : List (List (List ℕ))) → SetsOf (decode f) sets → RelationsOf (base nodes (decode f)) relations → Judged (base_of sets relations) v
-      → OnRecording M Judged (decode f) v
-  on_recording loads says sets relations s t j =
-      let shown : Judged (base nodes (decode f)) v = subst (λ (B : Base). Judged B v) (base_of_lem (decode f) sets relations s t) j in
+-- A verdict over the base of a file that loads is one on its recording.
+module _ (M : Model) (Judged : graph.Base → Verdict → Type 0) (f : List ℕ) where
+  pub on_recording : (v : Verdict) → refusal f ≡ 0 → ((B : graph.Base) → Judged B v → rule_of v ≡ verdict nodes B M) → (b : Base) → SetsOf (decode f) b
+      → RelationsOf (base nodes (decode f)) b → Judged (base_of b) v → OnRecording M Judged (decode f) v
+  on_recording v loads says b s t j =
+      let shown : Judged (base nodes (decode f)) v = subst (λ (B : graph.Base). Judged B v) (base_of_lem (decode f) b s t) j in
       record {
         number = verdict nodes (base nodes (decode f)) M;
         rules = recording_verdict nodes (decode f) (loaded_within f loads) M;
@@ -64,23 +64,15 @@ module _ (M : Model) (Judged : Base → Verdict → Type 0) (f : List ℕ) (v : 
         shown = shown;
       }
 
-  -- A verdict on a file is the number of its refusal, or one on its recording.
-  module _ (s : Side) (n : ℕ) (cause : n ≡ cause_for s f) where
-    pub on_refused : (n ≡ 0 → ⊥) → v.answer ≡ refuses n → v.len ≡ 0 → OnFile s M Judged f v
-    on_refused d a l =
-        record {
-          refused = λ m e. (a ∙ ap refuses (cause ∙ e), l);
-          judged = λ l. absurd (d (cause ∙ cause_own s f l));
-        }
+  -- A verdict on a file is its refusal, or one on its recording.
+  module _ (s : Side) where
+    pub on_refused : (e : Refusal) → number e ≡ cause_for s f → OnFile s M Judged f (Err e)
+    on_refused e cause = record { refused = cause; judged = tt }
 
-    pub on_loaded : n ≡ 0 → OnRecording M Judged (decode f) v → OnFile s M Judged f v
-    on_loaded z on =
-        record {
-          refused = λ m e. absurd (let q : suc m ≡ 0 = sym e ∙ sym cause ∙ z in omega arith);
-          judged = λ l. on;
-        }
+    pub on_loaded : (v : Verdict) → 0 ≡ cause_for s f → OnRecording M Judged (decode f) v → OnFile s M Judged f (Ok v)
+    on_loaded v cause on = record { refused = cause; judged = on }
 
--- Steps over the arrays of a recording are those over its base.
-pub steps_by_base : (cs : List Clause) (r : Recording ℕ) (v : Verdict) (found : List (List ℕ)) (sets : List (List ℕ)) (relations : List (List (List ℕ)))
-    → SetsOf r sets → RelationsOf (base nodes r) relations → StepsBy cs (base_of sets relations) v found → StepsBy cs (base nodes r) v found
-steps_by_base cs r v found sets relations s t w = subst (λ (B : Base). StepsBy cs B v found) (base_of_lem r sets relations s t) w
+-- Steps over the base that a recording's arrays hold are those over its base.
+pub steps_by_base : (cs : List Clause) (r : Recording ℕ) (v : Verdict) (found : List (List ℕ)) (b : Base) → SetsOf r b → RelationsOf (base nodes r) b
+    → StepsBy cs (base_of b) v found → StepsBy cs (base nodes r) v found
+steps_by_base cs r v found b s t w = subst (λ (B : graph.Base). StepsBy cs B v found) (base_of_lem r b s t) w

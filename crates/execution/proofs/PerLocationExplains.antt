@@ -2,7 +2,6 @@
 use mathlib.Core.Path.{◌≡◌, sym, ap, ◌∙◌}
 use mathlib.Core.List.{List}
 use Prim.Native.Nat.{ℕ}
-use lib.ListN.{length, take}
 use Rattle.relation.specs.Rel.{Rel, nodes}
 use Rattle.models.specs.Recording.{Recording}
 use Rattle.models.specs.Graph.{base, Within}
@@ -12,8 +11,7 @@ use Rattle.models.specs.Rules.{per_location}
 use Rattle.models.specs.Clause.{Clause, tested, unions}
 use Rattle.models.specs.Why.{Clauses, clauses_of}
 use Rattle.models.proofs.ClauseLaws.{sc_per_loc_opened}
-use Rattle.verdict.specs.declared.Verdict.{Verdict}
-use Rattle.verdict.specs.Answer.{rule_of}
+use Rattle.verdict.specs.Verdict.{Verdict, rule_of}
 use Rattle.verdict.specs.PerLocation.{PerLocation}
 use Rattle.clause.specs.Steps.{ring, Explained, StepsBy}
 use Rattle.clause.proofs.StepMeaning.{Covers, verdict_explained}
@@ -27,8 +25,7 @@ module _ (r : Recording ℕ) (within : Within nodes r) (t : Term) (cs : List Cla
   covers a b h = sym (ap (λ (s : Rel). s a b) (sc_per_loc_opened nodes (base nodes r))) ∙ h
 
   pub per_location_explains : (v : Verdict) → PerLocation t (base nodes r) v → (found : List (List ℕ))
-      → StepsBy (clauses_of own (rule_of v.answer)) (base nodes r) v found
-      → Explained (clauses_of own (rule_of v.answer)) r (ring v) (take (length (ring v)) found)
+      → StepsBy (clauses_of own (rule_of v)) (base nodes r) v found → Explained (clauses_of own (rule_of v)) r (ring v) found
   per_location_explains v w =
       verdict_explained r within own (per_location t) (eval nodes sc_per_loc (base nodes r)) (eval nodes sc_per_loc (base nodes r)) covers covers
       (λ a b h. sym (ap (λ (s : Rel). s a b) opened) ∙ h) v w

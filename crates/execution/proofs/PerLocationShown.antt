@@ -2,6 +2,7 @@
 use mathlib.Core.List.{List}
 use Prim.Native.Nat.{ℕ}
 use native.Mathlib.Omega.{arith}
+use Rattle.std.specs.Prelude.{Ok}
 use Rattle.relation.specs.Rel.{Rel, nodes}
 use Rattle.models.specs.Steps.{count}
 use Rattle.models.specs.Graph.{base}
@@ -10,14 +11,14 @@ use Rattle.models.specs.Armv8.{sc_per_loc}
 use Rattle.models.specs.Rules.{per_location}
 use Rattle.layout.specs.Layout.{Side}
 use Rattle.layout.specs.Decode.{decode}
-use Rattle.verdict.specs.declared.Verdict.{Verdict}
+use Rattle.verdict.specs.Verdict.{Verdict}
 use Rattle.verdict.specs.PerLocation.{PerLocation}
 use Rattle.verdict.proofs.ShownMeaning.{term_inside}
 use Rattle.verdict.proofs.FewestSteps.{plus_round}
 use Rattle.execution.specs.OnFile.{OnFile, ShowsAll, ShowsFewest}
 use Rattle.execution.proofs.AllShown.{shows_all, shows_fewest}
 
-module _ (s : Side) (t : Term) (f : List ℕ) (v : Verdict) (on : OnFile s (per_location t) (PerLocation t) f v) where
+module _ (s : Side) (t : Term) (f : List ℕ) (v : Verdict) (on : OnFile s (per_location t) (PerLocation t) f (Ok v)) where
   abbrev steps : Rel
   steps = eval nodes sc_per_loc (base nodes (decode f))
 

@@ -4,7 +4,6 @@ use mathlib.Core.Path.{◌≡◌, sym, ap, ◌∙◌}
 use mathlib.Core.List.{List}
 use mathlib.Core.Logic.{inl, inr}
 use Prim.Native.Nat.{ℕ}
-use lib.ListN.{length, take}
 use Rattle.relation.specs.Rel.{Rel, either, union, nodes}
 use Rattle.relation.proofs.Truth.{or_left, or_right}
 use Rattle.models.specs.Recording.{Recording}
@@ -15,8 +14,7 @@ use Rattle.models.specs.Rules.{IMM}
 use Rattle.models.specs.Clause.{tested, unions}
 use Rattle.models.specs.Why.{clauses_of, imm_rings}
 use Rattle.models.proofs.ClauseLaws.{unions_both, step_opened, eco_opened, ar_opened}
-use Rattle.verdict.specs.declared.Verdict.{Verdict}
-use Rattle.verdict.specs.Answer.{rule_of}
+use Rattle.verdict.specs.Verdict.{Verdict, rule_of}
 use Rattle.clause.specs.Steps.{ring, Explained, StepsBy}
 use Rattle.clause.proofs.StepMeaning.{Covers, verdict_explained}
 use Rattle.imm.specs.Judged.{Judged, steps, closing}
@@ -40,8 +38,8 @@ module _ (r : Recording ℕ) (within : Within nodes r) where
   covers_closing : Covers r within imm_rings.rule3 (closing B)
   covers_closing a b h = elim (closing_cases B a b h) [ inl p ↦ covers_steps a b p | inr p ↦ covers_eco a b p ]
 
-  pub imm_explains : (v : Verdict) → Judged B v → (found : List (List ℕ)) → StepsBy (clauses_of imm_rings (rule_of v.answer)) B v found
-      → Explained (clauses_of imm_rings (rule_of v.answer)) r (ring v) (take (length (ring v)) found)
+  pub imm_explains : (v : Verdict) → Judged B v → (found : List (List ℕ)) → StepsBy (clauses_of imm_rings (rule_of v)) B v found
+      → Explained (clauses_of imm_rings (rule_of v)) r (ring v) found
   imm_explains v w =
       verdict_explained r within imm_rings IMM (steps B) (closing B) covers_steps covers_closing
       (λ a b h. sym (ap (λ (s : Rel). s a b) (ar_opened nodes B)) ∙ h) v w

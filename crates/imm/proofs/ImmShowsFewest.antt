@@ -5,6 +5,7 @@ use mathlib.Core.Logic.{inl, inr}
 use Prim.Native.Nat.{ℕ, suc, ◌≤◌}
 use native.Mathlib.Omega.{arith}
 use native.Mathlib.Decide.{ℕ_discrete}
+use Rattle.std.specs.Prelude.{Ok}
 use Rattle.relation.specs.Rel.{nodes}
 use Rattle.relation.proofs.Walks.{Inside}
 use Rattle.relation.proofs.RingWalks.{ClosedWalk}
@@ -16,7 +17,7 @@ use Rattle.models.specs.Imm.{sw, hb, eco}
 use Rattle.models.specs.Rules.{IMM}
 use Rattle.layout.specs.Layout.{source}
 use Rattle.layout.specs.Decode.{decode}
-use Rattle.verdict.specs.declared.Verdict.{Verdict}
+use Rattle.verdict.specs.Verdict.{Verdict}
 use Rattle.verdict.proofs.ShownMeaning.{term_inside}
 use Rattle.verdict.proofs.FewestSteps.{tested, plus_walk, plus_round}
 use Rattle.execution.specs.OnFile.{OnFile, ShowsFewest}
@@ -64,7 +65,7 @@ module _ (r : Recording ℕ) (within : Within nodes r) where
   by_own_steps a (b, p, stay e) = by_steps a p
   by_own_steps a (b, p, step e) = by_eco a b p e
 
-pub imm_shows_fewest : (f : List ℕ) (v : Verdict) → OnFile source IMM Judged f v → ShowsFewest IMM f (own_steps (graph (decode f))) v
+pub imm_shows_fewest : (f : List ℕ) (v : Verdict) → OnFile source IMM Judged f (Ok v) → ShowsFewest IMM f (own_steps (graph (decode f))) v
 imm_shows_fewest f v on =
     shows_fewest source IMM Judged f v on (steps (base nodes (decode f))) (closing (base nodes (decode f))) (λ j. j)
     (own_steps (graph (decode f))) (inside (decode f)) (by_own_steps (decode f))

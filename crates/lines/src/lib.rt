@@ -2,13 +2,14 @@
 
 #![tactic(auto)]
 
-ghost use Rattle.std.specs.Prelude.{◌≡◌, ◌∷◌, ◌++◌, map, ◌+◌, ◌*◌, ◌≤◌, length};
+ghost use Rattle.std.specs.Prelude.{◌≡◌, [], ◌∷◌, ◌++◌, map, ◌+◌, ◌*◌, ◌<◌, ◌≤◌, length};
 ghost use Rattle.arrayvec.specs.ArrayVec.{array_vec_len};
 ghost use Rattle.decimal.specs.Decimal.{decimal};
 ghost use Rattle.verdict.specs.Verdict.{rule_of, events};
 ghost use Rattle.lines.specs.Lines.{model_word, spaced, line_of, refusal_line};
 
 use arrayvec::ArrayVec;
+use itoa::Buffer;
 use verdict::Verdict;
 
 // The model that a line is of: IMM or x86-TSO on a source recording, ARMv8 on a chip recording.
@@ -35,13 +36,8 @@ fn put_decimal(text: &mut Text, n: u8)
     requires { array_vec_len text.old + 3 ≤ 320 }
     ensures { text.new.items ≡ text.old.items ++ decimal n }
 {
-    if n >= 100 {
-        text.push(b'0' + n / 100);
-    }
-    if n >= 10 {
-        text.push(b'0' + n / 10 % 10);
-    }
-    text.push(b'0' + n % 10);
+    let mut digits = Buffer::new();
+    put_word(text, digits.format(n).as_bytes());
 }
 
 // Adds a space and n in decimal, at most four bytes.
@@ -63,6 +59,14 @@ fn put_numbers(text: &mut Text, numbers: &[u8])
     for n in numbers {
         put_number(text, *n);
     }
+}
+
+// Ends the line.
+fn end(text: &mut Text)
+    requires { array_vec_len text.old < 320 }
+    ensures { text.new.items ≡ text.old.items ++ 10 ∷ [] }
+{
+    text.push(b'\n');
 }
 
 // The model's word.
@@ -93,7 +97,7 @@ pub fn line(model: Model, verdict: &Verdict) -> Text
             put_numbers(&mut text, broken.events.as_slice());
         }
     }
-    text.push(b'\n');
+    end(&mut text);
     text
 }
 
@@ -104,7 +108,7 @@ pub fn refused(number: u8) -> Text
     let mut text = Text::new();
     put_word(&mut text, b"refused");
     put_number(&mut text, number);
-    text.push(b'\n');
+    end(&mut text);
     text
 }
 

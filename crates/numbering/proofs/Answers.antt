@@ -4,21 +4,24 @@ use mathlib.Core.Bool.{Bool, not, beq}
 use mathlib.Core.List.{List, [], ◌∷◌}
 use Prim.Native.Nat.{ℕ, zero, suc, ◌≤◌}
 use native.Mathlib.Omega.{arith}
-use lib.ListN.{length, length-take}
+use lib.ListN.{length}
 use Rattle.relation.specs.Rel.{nodes}
 use Rattle.models.specs.Graph.{Base, base}
 use Rattle.models.specs.Rules.{Model, first, verdict}
 use Rattle.layout.specs.Layout.{Side, side_of}
 use Rattle.layout.specs.Decode.{decode}
 use Rattle.recording.specs.Load.{cause_for, other_side}
-use Rattle.recording.proofs.CauseLaws.{cause_late, cause_goes_on}
-use Rattle.verdict.specs.declared.Verdict.{Verdict}
-use Rattle.verdict.specs.Answer.{answers, refusal_of, rule_of}
-use Rattle.verdict.specs.Shown.{events}
-use Rattle.output.specs.Output.{answer_of}
+use Rattle.recording.proofs.CauseLaws.{cause_late}
+use Rattle.std.specs.Prelude.{Result, Ok, Err}
+use Rattle.refusal.specs.declared.Refusal.{Refusal}
+use Rattle.refusal.specs.Refusal.{number}
+use Rattle.refusal.proofs.RefusalLaws.{number_not_0}
+use Rattle.verdict.specs.Verdict.{Verdict, rule_of, events}
+use Rattle.execution.specs.OnFile.{OnFile}
+use Rattle.output.specs.Output.{output_cause}
 use Rattle.output.proofs.FillLaws.{fills_written, fills_refused}
 use Rattle.translation.specs.Contents.{contents}
-use Rattle.probe.specs.Calls.{coded, coded_answer, Reports}
+use Rattle.probe.specs.Calls.{coded, coded_for, Reported, Reports}
 use Rattle.numbering.specs.Answers.{SameAnswer, CallAgrees}
 use Rattle.numbering.proofs.Decoded.{verdicts_same}
 
@@ -32,48 +35,50 @@ unfoldable named : ℕ → ℕ → ℕ
 named zero rule = rule
 named (suc k) rule = 0
 
--- Where the bytes have room, the answer is the cause and its rule.
-answer_coded : (k rule : ℕ) (bytes out : List ℕ) → length bytes ≤ length out
-    → (n : ℕ) × (coded_answer (named k rule) (answer_of k bytes (length out)) ≡ coded k (named k rule) n)
-unfolding named coded_answer
-answer_coded zero rule bytes out h = (length bytes, ap (coded_answer rule) (sym (fills_written 0 bytes out refl h (length bytes) refl _ refl).answer))
-answer_coded (suc k) rule bytes out h = (0, ap (coded_answer 0) (sym (fills_refused (suc k) bytes out (suc k) refl (λ e. omega arith)).answer))
+-- Where the bytes have room, the answer has the rule and no cause.
+answer_written : (rule : ℕ) (bytes out : List ℕ) → length bytes ≤ length out
+    → coded_for rule (output_cause 0 bytes (length out)) (length bytes) ≡ coded 0 rule (length bytes)
+unfolding coded_for
+answer_written rule bytes out h =
+    ap (λ (k : ℕ). coded_for rule k (length bytes)) (sym (fills_written 0 bytes out refl h (length bytes) refl _ refl).refused)
 
-rule_answered : (n : ℕ) → (refusal_of (answers n) ≡ 0) × (rule_of (answers n) ≡ n)
-unfolding refusal_of rule_of
-rule_answered zero = (refl, refl)
-rule_answered (suc n) = (refl, refl)
+-- A refusal is answered with its cause and no rule.
+answer_refused : (k rule : ℕ) → (k ≡ 0 → ⊥) → coded_for 0 k 0 ≡ coded k (named k rule) 0
+unfolding named coded_for
+answer_refused zero rule d = absurd (d refl)
+answer_refused (suc k) rule d = refl
 
 module _ (s : Side) (M : Model) (Judged : Base → Verdict → Type 0)
-    (says : (B : Base) (v : Verdict) → Judged B v → v.answer ≡ answers (verdict nodes B M)) (few : (B : Base) (v : Verdict) → Judged B v → v.len ≤ 64) where
+    (says : (B : Base) (v : Verdict) → Judged B v → rule_of v ≡ verdict nodes B M) (few : (B : Base) (v : Verdict) → Judged B v → length (events v) ≤ 64) where
   -- A call's answer by the file's cause and verdict, where the output has 64 bytes.
   answer_of_lem : (f out : List ℕ) (r : ℕ) (left : List ℕ) → 64 ≤ length out → Reports s M Judged f out r left
       → (n : ℕ) × (r ≡ coded (cause_for s f) (named (cause_for s f) (verdict nodes (base nodes (decode f)) M)) n)
-  unfolding refusal_of rule_of named
-  answer_of_lem f out r left room w = go (cause_for s f) refl
+  answer_of_lem f out r left room w = go w.verdict w.on_file w.reported
     where
-      v : Verdict
-      v = w.verdict
+      number_named : ℕ → ℕ
+      number_named k = named k (verdict nodes (base nodes (decode f)) M)
 
-      number : ℕ
-      number = verdict nodes (base nodes (decode f)) M
-
-      -- The answer has cause k and its rule, and at most 64 events are shown.
-      coded_so : (k : ℕ) → refusal_of v.answer ≡ k → rule_of v.answer ≡ named k number → v.len ≤ 64 → (n : ℕ) × (r ≡ coded k (named k number) n)
-      coded_so k p q h =
-          let fits : length (events v) ≤ length out = omega (arith, length-take v.len v.at) in
-          let a = answer_coded k number (events v) out fits in
-          (a.0, w.reported.answer ∙ ap₂ (λ (x y : ℕ). coded_answer x (answer_of y (events v) (length out))) q p ∙ a.1)
-
-      go : (k : ℕ) → cause_for s f ≡ k → (n : ℕ) × (r ≡ coded k (named k number) n)
-      go zero e =
-          let on = (w.on_file.judged (cause_goes_on s f e)).shown in
-          let a = says _ v on in
-          let b = rule_answered number in
-          coded_so zero (ap refusal_of a ∙ b.0) (ap rule_of a ∙ b.1) (few _ v on)
-      go (suc k) e =
-          let (a, b) = w.on_file.refused k e in
-          coded_so (suc k) (ap refusal_of a) (ap rule_of a) (omega (arith, b))
+      go : (v : Result Verdict Refusal) → OnFile s M Judged f v → Reported v out r left
+          → (n : ℕ) × (r ≡ coded (cause_for s f) (number_named (cause_for s f)) n)
+      unfolding named
+      go (Ok v) on told =
+          let shown = on.judged.shown in
+          let fits : length (events v) ≤ length out = omega (arith, few _ v shown) in
+          (
+            length (events v),
+            told.answer
+            ∙ answer_written (rule_of v) (events v) out fits
+            ∙ ap (λ (n : ℕ). coded 0 n (length (events v))) (says _ v shown)
+            ∙ ap (λ (k : ℕ). coded k (number_named k) (length (events v))) on.refused,
+          )
+      go (Err e) on told =
+          (
+            0,
+            told.answer
+            ∙ ap (λ (k : ℕ). coded_for 0 k 0) (sym (fills_refused (number e) [] out e refl).refused)
+            ∙ answer_refused (number e) _ (number_not_0 e)
+            ∙ ap (λ (k : ℕ). coded k (number_named k) 0) on.refused,
+          )
 
   pub call_agrees : CallAgrees s M Judged
   unfolding contents other_side

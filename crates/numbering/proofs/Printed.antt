@@ -6,8 +6,7 @@ use Rattle.models.specs.Rules.{IMM, ARMv8, TSO}
 use Rattle.layout.specs.Layout as layout
 use Rattle.layout.specs.Layout.{side, side_of}
 use Rattle.recording.specs.Load.{LoadsAs}
-use Rattle.verdict.specs.Answer.{answers}
-use Rattle.verdict.specs.Shown.{events}
+use Rattle.verdict.specs.Verdict.{events}
 use Rattle.translation.specs.Contents.{contents}
 use Rattle.soundness.specs.Soundness.{imm_verdict, armv8_verdict, tso_verdict}
 use Rattle.lines.specs.Lines.{source, chip, tso, line_of}
@@ -28,9 +27,9 @@ module _ (f g : List ℕ) (w : Renumbered f g) (text : List ℕ) (p : Prints g t
   unfolding imm_verdict armv8_verdict tso_verdict
   source_text e =
       let b = p.on_source (loads_as layout.source e) in
-      let imm = b.judged.shown.answer ∙ ap answers (sym (verdicts_same f g w IMM)) in
-      let armv8 = b.judged_chip.shown.answer ∙ ap answers (sym (verdicts_same _ _ (translations_renumbered f g w e) ARMv8)) in
-      let x86 = b.judged_tso.shown.answer ∙ ap answers (sym (verdicts_same f g w TSO)) in
+      let imm = b.judged.shown.answer ∙ sym (verdicts_same f g w IMM) in
+      let armv8 = b.judged_chip.shown.answer ∙ sym (verdicts_same _ _ (translations_renumbered f g w e) ARMv8) in
+      let x86 = b.judged_tso.shown.answer ∙ sym (verdicts_same f g w TSO) in
       let x = events b.on_source in
       let y = events b.on_chip in
       let z = events b.on_tso in
@@ -40,8 +39,8 @@ module _ (f g : List ℕ) (w : Renumbered f g) (text : List ℕ) (p : Prints g t
   unfolding armv8_verdict
   chip_text e =
       let b = p.on_chip (loads_as layout.chip e) in
-      let armv8 = b.judged_chip.shown.answer ∙ ap answers (sym (verdicts_same f g w ARMv8)) in
-      (events b.on_chip, b.prints ∙ ap (λ a. line_of chip a (events b.on_chip)) armv8)
+      let armv8 = b.judged_chip.shown.answer ∙ sym (verdicts_same f g w ARMv8) in
+      (events b.on_chip, b.prints ∙ ap (λ (n : ℕ). line_of chip n (events b.on_chip)) armv8)
 
 pub lines_agree : LinesAgree
 lines_agree = record {

@@ -4,8 +4,7 @@ use Rattle.std.specs.Prelude.{◌≡◌, List, ◌++◌, ℕ, ◌≤◌, ◌/◌
 use Rattle.models.specs.Graph.{Base}
 use Rattle.models.specs.Rules.{Model, IMM, ARMv8, TSO}
 use Rattle.layout.specs.Layout.{Side, source, chip, side}
-use Rattle.verdict.specs.declared.Verdict.{Verdict}
-use Rattle.verdict.specs.Answer.{answers}
+use Rattle.verdict.specs.Verdict.{Verdict}
 use Rattle.imm.specs.Judged as imm
 use Rattle.armv8.specs.Judged as armv8
 use Rattle.tso.specs.Judged as tso
@@ -39,11 +38,11 @@ abbrev pub SourceText : List ℕ → List ℕ → Type 0
 SourceText f text =
     (x y z : List ℕ)
     × (text
-    ≡ (line_of lines.source (answers (imm_verdict f)) x ++ line_of lines.chip (answers (armv8_verdict (translation f))) y)
-    ++ line_of lines.tso (answers (tso_verdict f)) z)
+    ≡ (line_of lines.source (imm_verdict f) x ++ line_of lines.chip (armv8_verdict (translation f)) y)
+    ++ line_of lines.tso (tso_verdict f) z)
 
 abbrev pub ChipText : List ℕ → List ℕ → Type 0
-ChipText f text = (x : List ℕ) × (text ≡ line_of lines.chip (answers (armv8_verdict f)) x)
+ChipText f text = (x : List ℕ) × (text ≡ line_of lines.chip (armv8_verdict f) x)
 
 -- What is printed of f, and what is printed of g, has these answers.
 pub record LinesAgree : Type 0 where

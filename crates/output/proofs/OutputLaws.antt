@@ -1,39 +1,19 @@
 -- Laws of writing into an output: byte by byte, and one piece after the other; and of the first bytes of an array.
 use mathlib.Core.Path.{◌≡◌, refl, sym, ap, ap₂, ◌∙◌}
 use mathlib.Core.List.{List, [], ◌++◌, append-nil, append_assoc}
-use Prim.Native.Nat.{ℕ, ◌+◌, ◌-◌, ◌<◌, ◌≤◌}
-use native.Mathlib.Numerals.{add-one}
+use Prim.Native.Nat.{ℕ, ◌+◌, ◌-◌, ◌≤◌}
 use native.Mathlib.Nat.{zero-add, add-zero}
 use native.Mathlib.Omega.{arith}
-use lib.ListN.{length, get_or, take, drop, set, length-set, length-append, length-drop, take-append-drop, drop_of_length-le}
-use lib.Seq.{paste, paste-zero, paste-suc, take-length, take_all, length-take-le, take_at, drop-append-add, drop-drop}
+use borrow.Rule.Slice.PartMut.{put_mid, Post-is}
+use lib.ListN.{length, take, drop, length-append, length-drop, take-append-drop, drop_of_length-le}
+use lib.Seq.{take_all, length-take-le, take_at, drop-append-add, drop-drop}
 use Rattle.output.specs.Output.{placed}
 
--- k of the bytes are in place.
-pub record Putting (out₀ : List ℕ) (at : ℕ) (bytes : List ℕ) (k : ℕ) (out : List ℕ) : Type 0 where
-  pub room : at + length bytes ≤ length out₀
-  pub done : out ≡ paste out₀ at bytes k
-  pub long : length out ≡ length out₀
-
-pub putting_none : (out : List ℕ) (at : ℕ) (bytes : List ℕ) → at + length bytes ≤ length out → Putting out at bytes 0 out
-putting_none out at bytes h = record { room = h; done = paste-zero out at bytes; long = refl }
-
-pub putting_more : (out₀ : List ℕ) (at : ℕ) (bytes : List ℕ) (k : ℕ) (out : List ℕ) → Putting out₀ at bytes k out → k < length bytes
-    → Putting out₀ at bytes (k + 1) (set out (at + k) (get_or bytes k 0))
-putting_more out₀ at bytes k out w h =
-    record {
-      room = w.room;
-      done = ap (λ (l : List ℕ). set l (at + k) (get_or bytes k 0)) w.done ∙ paste-suc out₀ at bytes k 0 (omega (arith, w.room)) h
-          ∙ ap (paste out₀ at bytes) (sym (add-one k));
-      long = length-set out (at + k) (get_or bytes k 0) ∙ w.long;
-    }
-
-pub putting_all : (out₀ : List ℕ) (at : ℕ) (bytes : List ℕ) (k : ℕ) (out : List ℕ) → Putting out₀ at bytes k out → k ≡ length bytes
-    → out ≡ placed out₀ at bytes
+-- Copied over the bytes from a place on.
+pub copied_placed : (out : List ℕ) (at : ℕ) (part bytes : List ℕ) → part ≡ bytes → put_mid at (at + length bytes - at) out part ≡ placed out at bytes
 unfolding placed
-putting_all out₀ at bytes k out w e =
-    w.done ∙ ap (paste out₀ at bytes) e ∙ ap (λ (l : List ℕ). take at out₀ ++ l ++ drop (at + length bytes) out₀) (take-length bytes)
-    ∙ append_assoc (take at out₀) bytes (drop (at + length bytes) out₀)
+copied_placed out at part bytes e =
+    ap₂ (λ (p q : List ℕ). take at out ++ (p ++ q)) e (Post-is at (at + length bytes) out (omega arith))
 
 -- Pieces placed one after the other.
 pub placed_nil : (d : List ℕ) (at : ℕ) → d ≡ placed d at []

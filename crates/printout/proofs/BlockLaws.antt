@@ -1,7 +1,7 @@
 -- Laws of a block: the members of a ring as a row, what is legal is shown by one digit each, and the columns of a block.
 use mathlib.Core.Path.{◌≡◌, refl, sym, ap, ap₂, ◌∙◌}
 use mathlib.Core.Bool.{Bool, true, false, ◌&&◌, ◌||◌, false≢true, or-false}
-use mathlib.Core.List.{List, [], ◌∷◌, ◌++◌}
+use mathlib.Core.List.{List, [], ◌∷◌, ◌++◌, append-nil}
 use mathlib.Core.Logic.{inl, inr}
 use Prim.Native.Nat.{ℕ, zero, suc, ◌+◌, ◌%◌, ◌<◌, ◌≤◌}
 use native.Mathlib.Numerals.{add-one}
@@ -9,7 +9,7 @@ use native.Mathlib.Omega.{arith}
 use native.Mathlib.Decide.{ℕ_discrete}
 use borrow.Author.Tests.{eqb-true, eq-eqb, ne_eqb, leb-true, ltb-true}
 use lib.Dec.{eqb, ltb}
-use lib.ListN.{length, get_or, take}
+use lib.ListN.{length, get_or, take, drop}
 use lib.Seq.{take-suc, take_all}
 use Rattle.relation.specs.Rel.{Set, empty, single, union}
 use Rattle.relation.specs.Bits.{bit}
@@ -107,30 +107,14 @@ unfolding event_legal
 digits_of f e loads low high =
     one_digit (side f) (locations f) _ _ _ ((decode f).value e) (sized f loads).most_locations ((decode f).class e) (legal_event f loads e low high)
 
--- An array as the list of its entries.
-abbrev entries : List ℕ → ℕ → ℕ → List ℕ
-entries l i zero = []
-entries l i (suc n) = get_or l i 0 ∷ entries l (suc i) n
-
-listed : (l : List ℕ) → l ≡ entries l 0 (length l)
-listed [] = refl
-listed (x ∷ l) = ap (◌∷◌ x) (listed l ∙ behind 0 (length l))
-  where
-    behind : (i n : ℕ) → entries l i n ≡ entries (x ∷ l) (suc i) n
-    behind i zero = refl
-    behind i (suc n) = ap (◌∷◌ (get_or l i 0)) (behind (suc i) n)
-
-listed_as : (l : List ℕ) (n : ℕ) → length l ≡ n → l ≡ entries l 0 n
-listed_as l n e = listed l ∙ ap (entries l 0) e
-
 -- The columns.
-pub letter_is : (class : ℕ) → class ≤ 3 → get_or (32 ∷ 82 ∷ 87 ∷ 70 ∷ []) class 0 ≡ letter class
+pub letter_other : (class : ℕ) → (class ≡ 1 → ⊥) → (class ≡ 2 → ⊥) → (class ≡ 3 → ⊥) → 32 ≡ letter class
 unfolding letter
-letter_is zero h = refl
-letter_is (suc zero) h = refl
-letter_is (suc (suc zero)) h = refl
-letter_is (suc (suc (suc zero))) h = refl
-letter_is (suc (suc (suc (suc n)))) h = absurd (omega arith)
+letter_other zero a b c = refl
+letter_other (suc zero) a b c = absurd (a refl)
+letter_other (suc (suc zero)) a b c = absurd (b refl)
+letter_other (suc (suc (suc zero))) a b c = absurd (c refl)
+letter_other (suc (suc (suc (suc n)))) a b c = refl
 
 module _ (stars ring : List ℕ) (e : ℕ) (low : e < 64) (w : Members ring stars) where
   pub star_shown : (b : Bool) → b ≡ bit stars e → b ≡ true → 42 ≡ star ring e
@@ -147,26 +131,22 @@ module _ (r : Recording ℕ) (e : ℕ) where
   place_fence p = sym (rw (eq-eqb (r.class e) 3 p, place))
 
   pub place_access : (r.class e ≡ 3 → ⊥) → (value : List ℕ) → value ≡ aligned 5 (r.value e) → (l : ℕ) → l ≡ r.location e
-      → (digit l ∷ 32 ∷ get_or value 0 0 ∷ get_or value 1 0 ∷ get_or value 2 0 ∷ get_or value 3 0 ∷ get_or value 4 0 ∷ []) ≡ place r e
+      → digit l ∷ 32 ∷ (value ++ []) ≡ place r e
   unfolding place
   place_access d value q l p =
-      sym (rw (ne_eqb (r.class e) 3 d, place, sym p) (ap (λ (v : List ℕ). digit l ∷ 32 ∷ v) (sym q ∙ listed_as value 5 (ap length (q ∙ columns5 (r.value e))))))
+      sym (rw (ne_eqb (r.class e) 3 d, place, sym p) (ap (λ (v : List ℕ). digit l ∷ 32 ∷ v) (sym (append-nil value ∙ q))))
 
-  place_size : length (place r e) ≡ 7
+  pub place_size : length (place r e) ≡ 7
   place_size =
       elim (ℕ_discrete (r.class e) 3) [
         | yes p ↦ sym (ap length (place_fence p))
-        | no d ↦ sym (ap length (place_access d _ refl _ refl))
+        | no d ↦ sym (ap length (place_access d _ (sym (columns5 (r.value e))) _ refl))
       ]
 
-  pub block_is : (ring : List ℕ) {number at : List ℕ} {c m g t : ℕ} → e < 100 → number ≡ aligned 5 e → at ≡ place r e
+  pub block_is : (ring : List ℕ) {number two at : List ℕ} {c m g t : ℕ} → e < 100 → number ≡ aligned 5 e → two ≡ take 2 (drop 3 number) → at ≡ place r e
       → c ≡ letter (r.class e) → m ≡ r.mode e → g ≡ r.flag e → t ≡ star ring e
-      → (get_or number 3 0 ∷ get_or number 4 0 ∷ 32 ∷ c ∷ digit m ∷ digit g ∷ 32
-      ∷ get_or at 0 0 ∷ get_or at 1 0 ∷ get_or at 2 0 ∷ get_or at 3 0 ∷ get_or at 4 0 ∷ get_or at 5 0 ∷ get_or at 6 0 ∷ 32 ∷ t ∷ 32 ∷ 32 ∷ 32 ∷ 32 ∷ [])
-      ≡ block r ring e
+      → two ++ (32 ∷ c ∷ digit m ∷ digit g ∷ 32 ∷ (at ++ (32 ∷ t ∷ spaces 4))) ≡ block r ring e
   unfolding block
-  block_is ring {at = at} few en ep ec em eg et =
-      rw (ec, em, eg, et, en, columns5 e)
-      (sym (rw (columns2 e few, block)
-      (ap (λ (l : List ℕ). column 10 e ∷ digit (e % 10) ∷ 32 ∷ letter (r.class e) ∷ digit (r.mode e) ∷ digit (r.flag e) ∷ 32 ∷ (l ++ (32 ∷ star ring e ∷ spaces 4)))
-      (sym ep ∙ listed_as at 7 (ap length ep ∙ place_size)))))
+  block_is ring few en ed ep ec em eg et =
+      let last = ap (λ (l : List ℕ). take 2 (drop 3 l)) (en ∙ columns5 e) ∙ sym (columns2 e few) in
+      cc

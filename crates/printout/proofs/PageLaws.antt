@@ -6,7 +6,7 @@ use native.Mathlib.Numerals.{add-one}
 use native.Mathlib.Omega.{arith}
 use native.Mathlib.Decide.{dec_lt}
 use borrow.Author.Tests.{lt-ltb, le-ltb}
-use lib.ListN.{length, get_or, length-append}
+use lib.ListN.{length, get_or, take, drop, length-append}
 use Rattle.models.specs.Recording.{Recording}
 use Rattle.layout.specs.Layout.{threads}
 use Rattle.layout.specs.Chains.{thread}
@@ -15,16 +15,19 @@ use Rattle.recording.specs.Causes.{refusal}
 use Rattle.recording.proofs.Accepted.{sized}
 use Rattle.output.specs.Output.{placed}
 use Rattle.output.proofs.OutputLaws.{length_placed, Placing, placing_none, placing_more}
-use Rattle.decimal.specs.Decimal.{spaces}
-use Rattle.printout.specs.Page.{block_width, line_size, block, block_at, blocks, line, lines, longest, page_of, thread_lists, page}
+use Rattle.decimal.specs.Decimal.{digit, spaces}
+use Rattle.decimal.proofs.DecimalLaws.{columns5}
+use Rattle.printout.specs.Page.{letter, place, star, block_width, line_size, block, block_at, blocks, line, lines, longest, page_of, thread_lists, page}
 use Rattle.printout.specs.Table.{Members}
-use Rattle.printout.proofs.BlockLaws.{block_is}
+use Rattle.printout.proofs.BlockLaws.{place_size, block_is}
 use Rattle.printout.proofs.TableLaws.{event_at}
 
 -- The block of an event has 20 columns.
 module _ (r : Recording ℕ) where
   block_size : (ring : List ℕ) (e : ℕ) → e < 100 → length (block r ring e) ≡ block_width
-  block_size ring e h = sym (ap length (block_is r e ring h refl refl refl refl refl refl))
+  block_size ring e h =
+      ap length (sym (block_is r e ring h refl refl refl refl refl refl refl) ∙ ap (λ (l : List ℕ). l ++ (32 ∷ letter (r.class e) ∷ digit (r.mode e) ∷ digit (r.flag e) ∷ 32 ∷ (place r e ++ (32 ∷ star ring e ∷ spaces 4)))) (ap (λ (l : List ℕ). take 2 (drop 3 l)) (columns5 e)))
+      ∙ ap (λ (n : ℕ). suc (suc (suc (suc (suc (suc (suc n))))))) (length-append (place r e) (32 ∷ star ring e ∷ spaces 4) ∙ ap (λ (n : ℕ). n + 6) (place_size r e))
 
   -- The block of a thread in line k.
   module _ (ring : List ℕ) (k : ℕ) (l : List ℕ) where

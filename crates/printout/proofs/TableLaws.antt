@@ -5,7 +5,12 @@ use Prim.Native.Nat.{ℕ, zero, suc, ◌+◌, ◌<◌, ◌≤◌, max}
 use native.Mathlib.Nat.{max_comm}
 use native.Mathlib.Numerals.{add-one}
 use native.Mathlib.Omega.{arith}
-use native.Mathlib.Decide.{ℕ_discrete}
+use mathlib.Core.Bool.{Bool, true, false, cond}
+use native.Mathlib.Decide.{ℕ_discrete, dec_lt}
+use borrow.Author.Tests.{lt-ltb, le-ltb}
+use lib.Dec.{eqb}
+use Rattle.std.specs.Ordering.{nat_cmp, ord_max, is_lt}
+use Rattle.core.specs.declared.cmp.Ordering.TheVariants.{Equal, Greater}
 use lib.ListN.{length, get_or, set, length-set, length-append, length-take, get_or-append}
 use lib.Seq.{get_or-set_same, get_or-set_other, get_or-take, get_or-append-add}
 use Rattle.layout.specs.Layout.{side, events, threads}
@@ -73,6 +78,16 @@ module _ (f : List ℕ) where
   started_all r n t w h = (let e : t ≡ threads = omega (arith, w.within) in subst (Starts f r) e w.starts)
 
 -- The longest thread, one by one.
+pub larger_is : (a b : ℕ) → ord_max nat_cmp a b ≡ max a b
+larger_is a b = elim (dec_lt b a) [
+  | yes h ↦ rw (lt-ltb b a h) (omega (arith, h))
+  | no h ↦ rw (le-ltb b a (omega (arith, h))) (at_least (eqb b a) ∙ omega (arith, h))
+]
+  where
+    at_least : (x : Bool) → cond (is_lt (cond x Equal Greater)) a b ≡ b
+    at_least true = refl
+    at_least false = refl
+
 larger_assoc : (a b c : ℕ) → max a (max b c) ≡ max (max a b) c
 larger_assoc a b c = omega arith
 
@@ -142,13 +157,10 @@ module _ (f at starts : List ℕ) (loads : refusal f ≡ 0) (w : Table f at star
       pub present : k < length (thread f t)
       present = omega (arith, next_start)
 
-      pub in_line : get_or starts t 0 + k < 48
-      in_line = omega (arith, w.begins.start (t + 1) (omega arith), upto_few f loads (t + 1) (omega arith))
+      pub in_line : get_or starts t 0 + k < length at
+      in_line = omega (arith, w.begins.start (t + 1) (omega arith), upto_grows f (t + 1) threads (omega arith), ap length w.line.listed)
 
       pub event_is : get_or at (get_or starts t 0 + k) 0 ≡ get_or (thread f t) k 0
       event_is =
-          let all = w.line.listed in
-          let inside : get_or starts t 0 + k < w.len = omega (arith, w.begins.start (t + 1) (omega arith), upto_grows f (t + 1) threads (omega arith), ap length all, length-take w.len at) in
-          sym (get_or-take w.len at (get_or starts t 0 + k) 0 inside)
-          ∙ ap₂ (λ (l : List ℕ) (i : ℕ). get_or l i 0) all (ap (λ (n : ℕ). n + k) (w.begins.start t (omega arith)))
+          ap₂ (λ (l : List ℕ) (i : ℕ). get_or l i 0) w.line.listed (ap (λ (n : ℕ). n + k) (w.begins.start t (omega arith)))
           ∙ upto_at f t k threads h present

@@ -31,22 +31,23 @@ pub fn members(ring: &[u8]) -> Row
     ensures { Members ring.now result }
 {
     let mut r = row::none();
-    let mut k: usize = 0;
-    while k < ring.len() {
-        let z = with(r, ring[k] as usize);
-        r = z;
-        k += 1;
+    for e in ring {
+        let more = with(r, usize::from(*e));
+        r = more;
     }
     r
 }
 
 // The letter of a class.
 fn letter(class: usize) -> u8
-    requires { class ≤ 3 }
     ensures { result ≡ letter class }
 {
-    let letters = [b' ', b'R', b'W', b'F'];
-    letters[class]
+    match class {
+        1 => b'R',
+        2 => b'W',
+        3 => b'F',
+        _ => b' ',
+    }
 }
 
 // The star of an event of the ring, and a space for another.
@@ -65,20 +66,14 @@ fn place(file: &[u8], e: usize) -> [u8; 7]
     requires { (refusal file.now ≡ 0) × (1 ≤ e) × (e ≤ events file.now) }
     ensures { result ≡ place (decode file.now) e }
 {
+    let mut place = [b' '; 7];
     if field::class_of(file, e) == 3 {
-        return [b' '; 7];
+        return place;
     }
-    let location = field::location_of(file, e);
     let value = decimal::aligned(field::value_of(file, e));
-    [
-        48 + location as u8,
-        b' ',
-        value[0],
-        value[1],
-        value[2],
-        value[3],
-        value[4],
-    ]
+    place[0] = b'0' + field::location_of(file, e) as u8;
+    place[2..].copy_from_slice(&value);
+    place
 }
 
 // The block of event e, with a star where it is one of the ring.
@@ -88,26 +83,12 @@ pub fn block(file: &[u8], stars: Row, e: usize) -> [u8; WIDTH]
 {
     let number = decimal::aligned(e);
     let place = place(file, e);
-    [
-        number[3],
-        number[4],
-        b' ',
-        letter(field::class_of(file, e)),
-        48 + field::mode_of(file, e) as u8,
-        48 + field::flag_of(file, e) as u8,
-        b' ',
-        place[0],
-        place[1],
-        place[2],
-        place[3],
-        place[4],
-        place[5],
-        place[6],
-        b' ',
-        star(stars, e),
-        b' ',
-        b' ',
-        b' ',
-        b' ',
-    ]
+    let mut block = [b' '; WIDTH];
+    block[3] = letter(field::class_of(file, e));
+    block[4] = b'0' + field::mode_of(file, e) as u8;
+    block[5] = b'0' + field::flag_of(file, e) as u8;
+    block[15] = star(stars, e);
+    block[7..14].copy_from_slice(&place);
+    block[..2].copy_from_slice(&number[3..]);
+    block
 }

@@ -1,6 +1,6 @@
 // Where the events of each thread stand in the line of all threads, and how many lines a page has.
 
-ghost use Rattle.std.specs.Prelude.{◌≡◌, ◌≤◌, max};
+ghost use Rattle.std.specs.Prelude.{◌≡◌, ◌≤◌};
 ghost use Rattle.layout.specs.Layout.{threads};
 ghost use Rattle.recording.specs.Causes.{refusal};
 ghost use Rattle.printout.specs.Page.{longest, thread_lists};
@@ -20,24 +20,12 @@ pub fn starts(file: &[u8]) -> [u8; STARTS]
     ensures { Starts file.now result threads }
 {
     let mut r = [0u8; STARTS];
-    let mut n: usize = 0;
-    let mut t: usize = 0;
-    while t < BLOCKS {
+    let mut n = 0;
+    for t in 0..BLOCKS {
         n += thread::length_of(file, t);
-        t += 1;
-        r[t] = n as u8;
+        r[t + 1] = n as u8;
     }
     r
-}
-
-// The larger of two numbers.
-fn larger(a: usize, b: usize) -> usize
-    ensures { result ≡ max a b }
-{
-    if a < b {
-        return b;
-    }
-    a
 }
 
 // The number of lines: as many as the longest thread has events, at most 18.
@@ -45,12 +33,9 @@ pub fn longest(file: &[u8]) -> usize
     requires { refusal file.now ≡ 0 }
     ensures { (result ≡ longest (thread_lists file.now threads)) × (result ≤ 18) }
 {
-    let mut r: usize = 0;
-    let mut t: usize = 0;
-    while t < BLOCKS {
-        let z = larger(r, thread::length_of(file, t));
-        r = z;
-        t += 1;
+    let mut r = 0;
+    for t in 0..BLOCKS {
+        r = r.max(thread::length_of(file, t));
     }
     r
 }

@@ -42,11 +42,9 @@ fn line(out: &mut [u8], file: &[u8], stars: Row, at: &[u8], starts: [u8; STARTS]
     ensures long { length out.new ≡ length out.old }
     ensures line { (ring : List ℕ) → Members ring stars → out.new ≡ placed out.old (line_size threads * k) (line (decode file.now) ring k (thread_lists file.now threads)) }
 {
-    let mut t: usize = 0;
-    while t < BLOCKS {
-        let bytes = block_at(file, stars, at, starts, t, k);
-        output::put(out, LINE * k + WIDTH * t, &bytes);
-        t += 1;
+    for t in 0..BLOCKS {
+        let block = block_at(file, stars, at, starts, t, k);
+        output::put(out, LINE * k + WIDTH * t, &block);
     }
     output::put(out, LINE * k + WIDTH * BLOCKS, b"\n");
 }
@@ -56,11 +54,7 @@ pub fn lines(out: &mut [u8], file: &[u8], stars: Row, at: &[u8], starts: [u8; ST
     requires { (refusal file.now ≡ 0) × Table file.now at.now starts × (n ≤ 18) × (line_size threads * n ≤ length out.old) }
     ensures { (ring : List ℕ) → Members ring stars → out.new ≡ placed out.old 0 (lines (decode file.now) ring n (thread_lists file.now threads)) }
 {
-    let mut k: usize = 0;
-    let mut left = n;
-    while 0 < left {
+    for k in 0..n {
         line(out, file, stars, at, starts, k);
-        k += 1;
-        left -= 1;
     }
 }

@@ -1,4 +1,6 @@
 -- Laws that the proofs of `recording` share, and its theorems.
+pub mod AllLaws
+pub mod IntoLaws
 pub mod LegalLaws
 pub mod CauseLaws
 pub mod CoherenceLaws

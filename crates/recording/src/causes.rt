@@ -16,8 +16,8 @@ ghost use Rattle.recording.specs.Load.{header_of, Loads, cause_for};
 use crate::{Header, legal, links};
 use layout::{chain, field, kind};
 use reading::{graph, thread};
-use relation::grid::Grid;
 use refusal::Refusal;
+use relation::grid::Grid;
 use relation::{grid, row};
 
 // Whether all links are sound.
@@ -26,25 +26,16 @@ pub fn links_sound(file: &[u8], po: Grid) -> bool
     ensures { result ≡ each (events file.now) (links_sound_at file.now) }
 {
     let n = field::events(file);
-    let mut b: usize = 0;
-    while b < n {
-        b += 1;
-        if !links::sound_into(file, po, b) {
-            return false;
-        }
-    }
-    true
+    (1..=n).all(|b| links::sound_into(file, po, b))
 }
 
 // Whether e is no strong write, or has an rmw.
+#[tactic(auto, using(crate::proofs::LegalLaws::legal_tests), unfolding(crate::specs::Causes::paired_at))]
 pub fn paired_at(file: &[u8], e: usize) -> bool
     requires { Readable file.now }
     ensures { result ≡ paired_at file.now e }
 {
-    if !field::is_flagged(file, e, 2) {
-        return true;
-    }
-    !row::is_empty(graph::sources_of(file, e, 3))
+    !field::is_flagged(file, e, 2) || !row::is_empty(graph::sources_of(file, e, 3))
 }
 
 // Whether every strong write has an rmw.
@@ -53,17 +44,11 @@ pub fn paired(file: &[u8]) -> bool
     ensures { result ≡ each (events file.now) (paired_at file.now) }
 {
     let n = field::events(file);
-    let mut e: usize = 0;
-    while e < n {
-        e += 1;
-        if !paired_at(file, e) {
-            return false;
-        }
-    }
-    true
+    (1..=n).all(|e| paired_at(file, e))
 }
 
 // Whether co leads back to its start. No step of it leads to an initial write, so links decide.
+#[tactic(auto, using(crate::proofs::CoherenceLaws::co_ring_is))]
 pub fn co_ring(file: &[u8]) -> bool
     requires { Readable file.now }
     ensures { result ≡ co_ring file.now }
@@ -73,6 +58,7 @@ pub fn co_ring(file: &[u8]) -> bool
 }
 
 // Whether the thread chains meet every event once: four heads from byte 4 on, event records of 8 bytes from byte 8 on.
+#[tactic(auto, unfolding(crate::specs::Causes::bad_threads))]
 pub fn threads_sound(file: &[u8]) -> bool
     requires { Sized file.now }
     ensures { not result ≡ bad_threads file.now }
@@ -82,6 +68,7 @@ pub fn threads_sound(file: &[u8]) -> bool
 }
 
 // Whether thread t, from 0, has more events than a file of this side may have.
+#[tactic(auto, unfolding(crate::specs::Causes::too_long))]
 pub fn too_long(file: &[u8], t: usize) -> bool
     requires { Sized file.now × (t < threads) }
     ensures { result ≡ too_long file.now t }
@@ -95,18 +82,12 @@ pub fn long_thread(file: &[u8]) -> bool
     requires { Sized file.now }
     ensures { result ≡ long_thread file.now }
 {
-    let mut t: usize = 0;
-    while t < 4 {
-        if too_long(file, t) {
-            return true;
-        }
-        t += 1;
-    }
-    false
+    (0..4).any(|t| too_long(file, t))
 }
 
 // Whether the event chains meet every link once: the first link into an event is the last byte of its record, byte 15 for event 1;
 // link records of 4 bytes stand behind the event records.
+#[tactic(auto, unfolding(crate::specs::Causes::bad_chains))]
 pub fn chains_sound(file: &[u8]) -> bool
     requires { Sized file.now }
     ensures { not result ≡ bad_chains file.now }
@@ -117,6 +98,7 @@ pub fn chains_sound(file: &[u8]) -> bool
 }
 
 // Refused with the first of the causes of the records and their chains, 5, 6, 13 and 7, that applies.
+#[tactic(auto, unfolding(crate::specs::Causes::record_causes, crate::specs::Causes::bad_event, models::specs::Rules::first))]
 pub fn record_refusal(file: &[u8]) -> Result<(), Refusal>
     requires { Sized file.now }
     ensures { number_of result ≡ first (record_causes file.now) }
@@ -137,6 +119,7 @@ pub fn record_refusal(file: &[u8]) -> Result<(), Refusal>
 }
 
 // Refused with the first of the causes of the links, 8 to 10, that applies.
+#[tactic(auto, unfolding(crate::specs::Causes::link_causes, crate::specs::Causes::bad_link, crate::specs::Causes::unpaired, models::specs::Rules::first))]
 pub fn link_refusal(file: &[u8]) -> Result<(), Refusal>
     requires { Sized file.now × (first (record_causes file.now) ≡ 0) }
     ensures { number_of result ≡ first (link_causes file.now) }
@@ -153,43 +136,6 @@ pub fn link_refusal(file: &[u8]) -> Result<(), Refusal>
     Ok(())
 }
 
-// Whether N, L or M is over its limit.
-pub fn over_limit(source: bool, n: usize, l: usize, m: usize) -> bool
-    ensures { result ≡ header_over source n l m }
-{
-    if kind::most_events(source) < n {
-        return true;
-    }
-    if 8 < l {
-        return true;
-    }
-    kind::most_links(source) < m
-}
-
-// Refused with the first of the causes of the header and the length, 1 to 4, that applies.
-pub fn header_refusal(file: &[u8]) -> Result<(), Refusal>
-    ensures cause { number_of result ≡ first (header_causes file.now) }
-    ensures sized { number_of result ≡ 0 → Sized file.now }
-{
-    if file.len() < 8 {
-        return Err(Refusal::TooShort);
-    }
-    let kind = file[0] as usize;
-    if !kind::known(kind) {
-        return Err(Refusal::KindUnknown);
-    }
-    let n = file[1] as usize;
-    let l = file[2] as usize;
-    let m = file[3] as usize;
-    if over_limit(kind::side_of(kind), n, l, m) {
-        return Err(Refusal::OverLimit);
-    }
-    if file.len() != 8 + 8 * n + 4 * m {
-        return Err(Refusal::WrongLength);
-    }
-    Ok(())
-}
-
 // What the header says.
 pub fn header(file: &[u8]) -> Header
     requires { 8 ≤ length file.now }
@@ -201,6 +147,38 @@ pub fn header(file: &[u8]) -> Header
         locations: file[2] as usize,
         links: file[3] as usize,
     }
+}
+
+// Whether N, L or M is over its limit.
+#[tactic(auto, using(crate::proofs::LegalLaws::legal_tests), unfolding(crate::specs::Causes::header_over))]
+pub fn over_limit(header: Header) -> bool
+    ensures { result ≡ header_over header.source header.events header.locations header.links }
+{
+    kind::most_events(header.source) < header.events
+        || 8 < header.locations
+        || kind::most_links(header.source) < header.links
+}
+
+// Refused with the first of the causes of the header and the length, 1 to 4, that applies.
+#[tactic(auto, using(crate::proofs::CauseLaws::sized_of), unfolding(crate::specs::Causes::header_causes, crate::specs::Causes::too_short, crate::specs::Causes::kind_unknown, crate::specs::Causes::over_limit, crate::specs::Causes::wrong_length, models::specs::Rules::first))]
+pub fn header_refusal(file: &[u8]) -> Result<(), Refusal>
+    ensures cause { number_of result ≡ first (header_causes file.now) }
+    ensures sized { number_of result ≡ 0 → Sized file.now }
+{
+    if file.len() < 8 {
+        return Err(Refusal::TooShort);
+    }
+    if !kind::known(file[0] as usize) {
+        return Err(Refusal::KindUnknown);
+    }
+    let header = header(file);
+    if over_limit(header) {
+        return Err(Refusal::OverLimit);
+    }
+    if file.len() != 8 + 8 * header.events + 4 * header.links {
+        return Err(Refusal::WrongLength);
+    }
+    Ok(())
 }
 
 // Loads a file: refused with the first cause that applies, or loaded with its header.

@@ -1,5 +1,7 @@
 // What a record may say: the table of classes, modes and flags, and the conditions of the links.
 
+#![tactic(auto, using(crate::proofs::LegalLaws::legal_tests), unfolding(crate::specs::Causes::read_legal, crate::specs::Causes::write_legal, crate::specs::Causes::fence_mode, crate::specs::Causes::fence_legal, crate::specs::Causes::legal, crate::specs::Causes::event_legal, crate::specs::Causes::same_locations, crate::specs::Causes::rf_legal, crate::specs::Causes::co_legal, crate::specs::Causes::rmw_legal, crate::specs::Causes::data_legal, crate::specs::Causes::addr_legal, crate::specs::Causes::ctrl_legal, crate::specs::Causes::casdep_legal, crate::specs::Causes::link_legal, crate::specs::Causes::link_sound))]
+
 ghost use Rattle.std.specs.Prelude.{◌≡◌, not, ◌&&◌, ◌||◌, ◌≤◌, ◌<◌, eqb, leb};
 ghost use Rattle.relation.specs.Rel.{nodes};
 ghost use Rattle.models.specs.Graph.{base};
@@ -11,6 +13,16 @@ ghost use Rattle.recording.specs.Causes.{read_legal, write_legal, fence_mode, fe
 
 use layout::field;
 
+// The numbers of an event's record.
+#[derive(Clone, Copy)]
+pub struct Fields {
+    pub class: usize,
+    pub mode: usize,
+    pub flag: usize,
+    pub location: usize,
+    pub value: usize,
+}
+
 // A read: mode 0 or 1, flag 0 or 1.
 pub fn read_legal(mode: usize, flag: usize) -> bool
     ensures { result ≡ read_legal mode flag }
@@ -18,35 +30,11 @@ pub fn read_legal(mode: usize, flag: usize) -> bool
     mode <= 1 && flag <= 1
 }
 
-// A write has mode 0 or 2.
-pub fn write_mode(mode: usize) -> bool
-    ensures { result ≡ eqb mode 0 || eqb mode 2 }
-{
-    mode == 0 || mode == 2
-}
-
-// A write has flag 0, or 1 (strong) in a source recording.
-pub fn write_flag(source: bool, flag: usize) -> bool
-    ensures { result ≡ eqb flag 0 || (eqb flag 1 && source) }
-{
-    if flag == 0 {
-        return true;
-    }
-    flag == 1 && source
-}
-
-// A write: its mode and its flag.
+// A write: mode 0 or 2; flag 0, or 1 (strong) in a source recording.
 pub fn write_legal(source: bool, mode: usize, flag: usize) -> bool
     ensures { result ≡ write_legal source mode flag }
 {
-    write_mode(mode) && write_flag(source, flag)
-}
-
-// Whether x is from low to high.
-pub fn between(low: usize, x: usize, high: usize) -> bool
-    ensures { result ≡ leb low x && leb x high }
-{
-    low <= x && x <= high
+    (mode == 0 || mode == 2) && (flag == 0 || (flag == 1 && source))
 }
 
 // A fence has mode 1 to 4 in a source recording, 5 to 7 in a chip recording.
@@ -54,9 +42,10 @@ pub fn fence_mode(source: bool, mode: usize) -> bool
     ensures { result ≡ fence_mode source mode }
 {
     if source {
-        return between(1, mode, 4);
+        (1..=4).contains(&mode)
+    } else {
+        (5..=7).contains(&mode)
     }
-    between(5, mode, 7)
 }
 
 // A fence: its mode, and flag 0.
@@ -66,35 +55,17 @@ pub fn fence_legal(source: bool, mode: usize, flag: usize) -> bool
     fence_mode(source, mode) && flag == 0
 }
 
-// A fence's location and value.
-pub fn both_zero(location: usize, value: usize) -> bool
-    ensures { result ≡ eqb location 0 && eqb value 0 }
+// Whether an event's numbers are as the table says: by class, a read's or write's location is below L, a fence's location and
+// value are 0.
+pub fn legal(source: bool, l: usize, event: Fields) -> bool
+    ensures { result ≡ legal source l event.class event.mode event.flag event.location event.value }
 {
-    location == 0 && value == 0
-}
-
-// Whether an event's numbers are as the table says.
-pub fn legal(
-    source: bool,
-    l: usize,
-    class: usize,
-    mode: usize,
-    flag: usize,
-    location: usize,
-    value: usize,
-) -> bool
-    ensures { result ≡ legal source l class mode flag location value }
-{
-    if class == 1 {
-        return read_legal(mode, flag) && location < l;
+    match event.class {
+        1 => read_legal(event.mode, event.flag) && event.location < l,
+        2 => write_legal(source, event.mode, event.flag) && event.location < l,
+        3 => fence_legal(source, event.mode, event.flag) && event.location == 0 && event.value == 0,
+        _ => false,
     }
-    if class == 2 {
-        return write_legal(source, mode, flag) && location < l;
-    }
-    if class == 3 {
-        return fence_legal(source, mode, flag) && both_zero(location, value);
-    }
-    false
 }
 
 // Whether the record of e is as the table says.
@@ -102,20 +73,14 @@ pub fn event_legal(file: &[u8], e: usize) -> bool
     requires { Sized file.now }
     ensures { result ≡ event_legal file.now e }
 {
-    let source = field::side(file);
-    let l = field::locations(file);
-    let class = field::class_of(file, e);
-    let mode = field::mode_of(file, e);
-    let flag = field::flag_of(file, e);
-    legal(
-        source,
-        l,
-        class,
-        mode,
-        flag,
-        field::location_of(file, e),
-        field::value_of(file, e),
-    )
+    let event = Fields {
+        class: field::class_of(file, e),
+        mode: field::mode_of(file, e),
+        flag: field::flag_of(file, e),
+        location: field::location_of(file, e),
+        value: field::value_of(file, e),
+    };
+    legal(field::side(file), field::locations(file), event)
 }
 
 // Whether every event record is legal.
@@ -124,22 +89,7 @@ pub fn events_legal(file: &[u8]) -> bool
     ensures { result ≡ each (events file.now) (event_legal file.now) }
 {
     let n = field::events(file);
-    let mut e: usize = 0;
-    while e < n {
-        e += 1;
-        if !event_legal(file, e) {
-            return false;
-        }
-    }
-    true
-}
-
-// Whether a and b are events of classes j and k.
-pub fn classes(file: &[u8], a: usize, j: usize, b: usize, k: usize) -> bool
-    requires { Sized file.now }
-    ensures { result ≡ of_class (decode file.now) j a && of_class (decode file.now) k b }
-{
-    field::of_class(file, a, j) && field::of_class(file, b, k)
+    (1..=n).all(|e| event_legal(file, e))
 }
 
 // Whether a and b have the same location.
@@ -150,31 +100,15 @@ pub fn same_location(file: &[u8], a: usize, b: usize) -> bool
     field::location_of(file, a) == field::location_of(file, b)
 }
 
-// Whether a and b have the same location and value.
-pub fn same_value(file: &[u8], a: usize, b: usize) -> bool
-    requires { Sized file.now }
-    ensures { result ≡ same_locations (decode file.now) a b && eqb ((decode file.now).value a) ((decode file.now).value b) }
-{
-    same_location(file, a, b) && field::value_of(file, a) == field::value_of(file, b)
-}
-
 // 1 rf: write to read, same location and value.
 pub fn rf_legal(file: &[u8], a: usize, b: usize) -> bool
     requires { Sized file.now }
     ensures { result ≡ rf_legal (decode file.now) a b }
 {
-    classes(file, a, 2, b, 1) && same_value(file, a, b)
-}
-
-// Whether b is a recorded event, other than a, of the same location.
-pub fn another(file: &[u8], a: usize, b: usize) -> bool
-    requires { Sized file.now }
-    ensures { result ≡ (decode file.now).recorded b && (not (eqb a b) && same_locations (decode file.now) a b) }
-{
-    if !field::is_recorded(file, b) {
-        return false;
-    }
-    a != b && same_location(file, a, b)
+    field::of_class(file, a, 2)
+        && field::of_class(file, b, 1)
+        && same_location(file, a, b)
+        && field::value_of(file, a) == field::value_of(file, b)
 }
 
 // 2 co: write to another recorded write of the same location.
@@ -182,7 +116,11 @@ pub fn co_legal(file: &[u8], a: usize, b: usize) -> bool
     requires { Sized file.now }
     ensures { result ≡ co_legal (decode file.now) a b }
 {
-    classes(file, a, 2, b, 2) && another(file, a, b)
+    field::of_class(file, a, 2)
+        && field::of_class(file, b, 2)
+        && field::is_recorded(file, b)
+        && a != b
+        && same_location(file, a, b)
 }
 
 // Whether b directly follows a in its thread.
@@ -190,26 +128,7 @@ pub fn is_next(file: &[u8], a: usize, b: usize) -> bool
     requires { Sized file.now }
     ensures { result ≡ (decode file.now).next a b }
 {
-    if !field::is_recorded(file, a) {
-        return false;
-    }
-    field::is_recorded(file, b) && field::event_byte(file, a, 0) == b
-}
-
-// Whether b directly follows a in its thread and has the same location.
-pub fn next_same(file: &[u8], a: usize, b: usize) -> bool
-    requires { Sized file.now }
-    ensures { result ≡ (decode file.now).next a b && same_locations (decode file.now) a b }
-{
-    is_next(file, a, b) && same_location(file, a, b)
-}
-
-// Whether a is an exclusive read and b a write.
-pub fn exclusive_to_write(file: &[u8], a: usize, b: usize) -> bool
-    requires { Sized file.now }
-    ensures { result ≡ flagged (decode file.now) 1 a && of_class (decode file.now) 2 b }
-{
-    field::is_flagged(file, a, 1) && field::of_class(file, b, 2)
+    field::is_recorded(file, a) && field::is_recorded(file, b) && field::event_byte(file, a, 0) == b
 }
 
 // 3 rmw: exclusive read to the write directly after it, same location.
@@ -217,7 +136,10 @@ pub fn rmw_legal(file: &[u8], a: usize, b: usize) -> bool
     requires { Sized file.now }
     ensures { result ≡ rmw_legal (decode file.now) a b }
 {
-    exclusive_to_write(file, a, b) && next_same(file, a, b)
+    field::is_flagged(file, a, 1)
+        && field::of_class(file, b, 2)
+        && is_next(file, a, b)
+        && same_location(file, a, b)
 }
 
 // Types 4 to 7: from a read to an event po-later. Here and below `later` says whether b is po-later than a.
@@ -228,65 +150,22 @@ pub fn from_read(file: &[u8], later: bool, a: usize, b: usize) -> bool
     field::of_class(file, a, 1) && later
 }
 
-// 4 data: read to po-later write.
-pub fn data_legal(file: &[u8], later: bool, a: usize, b: usize) -> bool
-    requires { Sized file.now × (a < 64 → later ≡ (base nodes (decode file.now)).po a b) }
-    ensures { result ≡ data_legal (decode file.now) a b }
-{
-    from_read(file, later, a, b) && field::of_class(file, b, 2)
-}
-
-// 5 addr: read to po-later read or write.
-pub fn addr_legal(file: &[u8], later: bool, a: usize, b: usize) -> bool
-    requires { Sized file.now × (a < 64 → later ≡ (base nodes (decode file.now)).po a b) }
-    ensures { result ≡ addr_legal (decode file.now) a b }
-{
-    from_read(file, later, a, b) && field::is_access(file, b)
-}
-
-// Whether b is an exclusive read of a source recording.
-pub fn source_exclusive(file: &[u8], b: usize) -> bool
-    requires { Sized file.now }
-    ensures { result ≡ side file.now && flagged (decode file.now) 1 b }
-{
-    field::side(file) && field::is_flagged(file, b, 1)
-}
-
-// 7 casdep: read to po-later exclusive read; source only.
-pub fn casdep_legal(file: &[u8], later: bool, a: usize, b: usize) -> bool
-    requires { Sized file.now × (a < 64 → later ≡ (base nodes (decode file.now)).po a b) }
-    ensures { result ≡ casdep_legal (decode file.now) (side file.now) a b }
-{
-    from_read(file, later, a, b) && source_exclusive(file, b)
-}
-
-// Whether a link of type t may lead from a to b.
+// Whether a link of type t may lead from a to b: 4 data to a write, 5 addr to a read or write, 6 ctrl to any event, 7 casdep to an
+// exclusive read, source only.
 pub fn link_legal(file: &[u8], later: bool, t: usize, a: usize, b: usize) -> bool
     requires { Sized file.now × (a < 64 → later ≡ (base nodes (decode file.now)).po a b) }
     ensures { result ≡ link_legal (decode file.now) (side file.now) t a b }
 {
-    if t == 1 {
-        return rf_legal(file, a, b);
+    match t {
+        1 => rf_legal(file, a, b),
+        2 => co_legal(file, a, b),
+        3 => rmw_legal(file, a, b),
+        4 => from_read(file, later, a, b) && field::of_class(file, b, 2),
+        5 => from_read(file, later, a, b) && field::is_access(file, b),
+        6 => from_read(file, later, a, b),
+        7 => from_read(file, later, a, b) && field::side(file) && field::is_flagged(file, b, 1),
+        _ => false,
     }
-    if t == 2 {
-        return co_legal(file, a, b);
-    }
-    if t == 3 {
-        return rmw_legal(file, a, b);
-    }
-    if t == 4 {
-        return data_legal(file, later, a, b);
-    }
-    if t == 5 {
-        return addr_legal(file, later, a, b);
-    }
-    if t == 6 {
-        return from_read(file, later, a, b);
-    }
-    if t == 7 {
-        return casdep_legal(file, later, a, b);
-    }
-    false
 }
 
 // Whether the link record m into b is sound, where `later` says whether b is po-later than its source.

@@ -1,8 +1,8 @@
 -- Laws of the functions over events: each answers what its definition says.
 use mathlib.Core.Path.{◌≡◌, refl, sym, ap, ap₂, ◌∙◌}
 use mathlib.Core.Bool.{Bool, true, false, ◌&&◌}
-use mathlib.Core.List.{List}
-use Prim.Native.Nat.{ℕ, suc, ◌+◌, ◌<◌, ◌≤◌}
+use mathlib.Core.List.{List, [], ◌∷◌}
+use Prim.Native.Nat.{ℕ, suc, ◌+◌, ◌*◌, ◌<◌, ◌≤◌}
 use native.Mathlib.Numerals.{add-one}
 use native.Mathlib.Omega.{arith}
 use borrow.Author.Count.{below_more}
@@ -16,33 +16,43 @@ use Rattle.layout.specs.Decode.{decode}
 use Rattle.layout.proofs.FieldLaws.{and_yes, and_no}
 use Rattle.layout.proofs.FieldLaws.{next_first}
 use Rattle.translation.specs.Contents.{contents}
-use Rattle.translation.specs.Translate.{strong, inserted, new_events, fenced, after, kept_or, new_mode, new_flag}
+use Rattle.std.specs.Prelude.{Option, Some, None, unwrap_or, IsSome}
+use Rattle.translation.specs.Translate.{strong, inserted, new_events, fenced, after, kept_or, new_mode, new_flag, translated}
+use Rattle.translation.specs.Encode.{chained, links_before, links_up_to, event_record}
+use Rattle.translation.specs.Translation.{chip}
 use Rattle.translation.specs.Parts.{Source, NewEvent}
 use Rattle.translation.proofs.TranslateLaws as law
 use Rattle.translation.proofs.TranslateLaws.{flagged_is}
 use Rattle.translation.proofs.SourceFacts.{limits, few_events, next_within, flagged_decoded}
 use Rattle.translation.proofs.Bounds.{most_events_lem}
 
+-- A number that is searched for below n, where the search answers with an option.
+pub some_below : {n w : ℕ} (o : Option ℕ) → unwrap_or o n ≡ w → w < n → IsSome o
+some_below (Some x) p h = refl
+some_below None p h = absurd (omega arith)
+
+pub some_is : (n : ℕ) {w x : ℕ} {o : Option ℕ} → o ≡ Some x → unwrap_or o n ≡ w → x ≡ w
+some_is n e p = sym (ap (λ (o : Option ℕ). unwrap_or o n) e) ∙ p
+
 -- The strong writes below w are counted.
 pub record Counted (f : List ℕ) (w n : ℕ) : Type 0 where
-  pub source : Source f
   pub same : n ≡ count w (strong (contents f))
   pub most : n ≤ w
 
 module _ (f : List ℕ) where
-  pub counted_none : Source f → Counted f 0 0
+  pub counted_none : Counted f 0 0
   unfolding count
-  counted_none s = record { source = s; same = refl; most = omega arith }
+  counted_none = record { same = refl; most = omega arith }
 
-  pub counted_yes : (w n : ℕ) (b : Bool) → b ≡ recording.flagged (decode f) 2 w → b ≡ true → Counted f w n → Counted f (w + 1) (n + 1)
-  counted_yes w n b e p c =
-      let is = sym (flagged_decoded f c.source 2 w) ∙ sym e ∙ p in
-      record { source = c.source; same = ap (λ (x : ℕ). x + 1) c.same ∙ sym (count_next_yes w (strong (contents f)) is); most = omega (arith, c.most) }
+  pub counted_yes : Source f → (w n : ℕ) (b : Bool) → b ≡ recording.flagged (decode f) 2 w → b ≡ true → Counted f w n → Counted f (w + 1) (n + 1)
+  counted_yes s w n b e p c =
+      let is = sym (flagged_decoded f s 2 w) ∙ sym e ∙ p in
+      record { same = ap (λ (x : ℕ). x + 1) c.same ∙ sym (count_next_yes w (strong (contents f)) is); most = omega (arith, c.most) }
 
-  pub counted_no : (w n : ℕ) (b : Bool) → b ≡ recording.flagged (decode f) 2 w → b ≡ false → Counted f w n → Counted f (w + 1) n
-  counted_no w n b e p c =
-      let is = sym (flagged_decoded f c.source 2 w) ∙ sym e ∙ p in
-      record { source = c.source; same = c.same ∙ sym (count_next_no w (strong (contents f)) is); most = omega (arith, c.most) }
+  pub counted_no : Source f → (w n : ℕ) (b : Bool) → b ≡ recording.flagged (decode f) 2 w → b ≡ false → Counted f w n → Counted f (w + 1) n
+  counted_no s w n b e p c =
+      let is = sym (flagged_decoded f s 2 w) ∙ sym e ∙ p in
+      record { same = c.same ∙ sym (count_next_no w (strong (contents f)) is); most = omega (arith, c.most) }
 
   pub counted_all : (w e n : ℕ) → w ≡ e → Counted f w n → (n ≡ count e (strong (contents f))) × (n ≤ e)
   counted_all w e n p c = (c.same ∙ ap (λ (x : ℕ). count x (strong (contents f))) p, omega (arith, c.most))
@@ -97,34 +107,26 @@ module _ (f : List ℕ) where
       → b ≡ strong (contents f) w && eqb (inserted (contents f) w) e
   fence_no s e w b p q = and_no b (strong (contents f) w) (eqb (inserted (contents f) w) e) (p ∙ flagged_decoded f s 2 w) q
 
-  -- No number below w is.
-  pub record Passed (e w : ℕ) : Type 0 where
-    pub source : Source f
-    pub none : (v : ℕ) → v < w → strong (contents f) v && eqb (inserted (contents f) v) e ≡ false
+  -- The record of an inserted fence, and of a recorded event.
+  module _ (e next first : ℕ) (p : next ≡ after (contents f) e)
+      (q : first ≡ chained (links_up_to (chip f) e) (links_before (chip f) (512 * e))) where
+    pub record_made : events f < e → next ∷ 3 ∷ 5 ∷ 0 ∷ 0 ∷ 0 ∷ 0 ∷ first ∷ [] ≡ event_record (chip f) e
+    unfolding event_record translated contents
+    record_made h =
+        let c = contents f in
+        let made : (v : ℕ → ℕ) (new : ℕ) → kept_or c v new e ≡ new = λ v new. law.made c v new e h in
+        cc (made c.class 3, made (new_mode c) 5, made (new_flag c) 0, made c.location 0, made c.low 0, made c.high 0)
 
-  pub passed_none : (e : ℕ) → Source f → Passed e 0
-  passed_none e s = record { source = s; none = λ v h. absurd (omega arith) }
-
-  pub passed_more : (e w : ℕ) (b : Bool) → b ≡ strong (contents f) w && eqb (inserted (contents f) w) e → b ≡ false → Passed e w → Passed e (w + 1)
-  passed_more e w b p q k = record { source = k.source; none = below_more _ w k.none (sym p ∙ q) }
-
-  pub passed_here : (e w : ℕ) (b : Bool) → b ≡ strong (contents f) w && eqb (inserted (contents f) w) e → b ≡ true → w < 64 → Passed e w → w ≡ fenced (contents f) e
-  unfolding fenced
-  passed_here e w b p q h k = sym (least_at 64 (λ v. strong (contents f) v && eqb (inserted (contents f) v) e) w h (sym p ∙ q) k.none)
-
-  pub passed_all : (e w : ℕ) → 64 ≤ w → Passed e w → 64 ≡ fenced (contents f) e
-  unfolding fenced
-  passed_all e w h k = sym (least_none 64 (λ v. strong (contents f) v && eqb (inserted (contents f) v) e) (λ v g. k.none v (omega arith)))
+    pub record_kept : (class mode flag location low high : ℕ) → e ≤ events f → class ≡ event_byte f e 1 → mode ≡ new_mode (contents f) e
+        → flag ≡ new_flag (contents f) e → location ≡ event_byte f e 4 → low ≡ event_byte f e 5 → high ≡ event_byte f e 6
+        → next ∷ class ∷ mode ∷ flag ∷ location ∷ low ∷ high ∷ first ∷ [] ≡ event_record (chip f) e
+    unfolding event_record translated contents
+    record_kept class mode flag location low high h a b d g i j =
+        let c = contents f in
+        let kept : (v : ℕ → ℕ) (new : ℕ) → kept_or c v new e ≡ v e = λ v new. law.kept c v new e h in
+        cc (kept c.class 3, kept (new_mode c) 5, kept (new_flag c) 0, kept c.location 0, kept c.low 0, kept c.high 0)
 
   -- What the records say, by cases.
-  pub fence_has : (v : ℕ → ℕ) (new e n : ℕ) → n ≡ events f → n < e → new ≡ kept_or (contents f) v new e
-  unfolding contents
-  fence_has v new e n p h = sym (law.made (contents f) v new e (omega arith))
-
-  pub event_keeps : (v : ℕ → ℕ) (new e n x : ℕ) → n ≡ events f → e ≤ n → x ≡ v e → x ≡ kept_or (contents f) v new e
-  unfolding contents
-  event_keeps v new e n x p h q = q ∙ sym (law.kept (contents f) v new e (omega arith))
-
   pub mode_stays : (e m k : ℕ) → m ≡ event_byte f e 2 → k ≡ event_byte f e 1 → (k ≡ 3 → ⊥) → m ≡ new_mode (contents f) e
   unfolding contents
   mode_stays e m k p q d = p ∙ sym (law.mode_access (contents f) e (λ r. d (q ∙ r)))

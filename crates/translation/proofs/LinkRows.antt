@@ -24,7 +24,7 @@ use Rattle.translation.specs.Contents.{Contents, contents}
 use Rattle.translation.specs.Translate.{new_events, after, follows, controlled, from_exclusive, from_casdep, new_link, translated}
 use Rattle.translation.specs.Encode.{is_link, links_before, links_up_to}
 use Rattle.translation.specs.Translation.{chip}
-use Rattle.translation.specs.Parts.{Source, NewEvent, RowsInto, Ends, targets, ctrl_into}
+use Rattle.translation.specs.Parts.{Source, NewEvent, RowsInto, Ends, recorded_follows, ctrl_into}
 use Rattle.relation.proofs.Counting.{count_add, count_same, count_mono}
 use Rattle.translation.proofs.TranslateLaws as law
 use Rattle.translation.proofs.TranslateLaws.{flagged_is}
@@ -36,6 +36,16 @@ use Rattle.translation.proofs.Bounds.{links_fit, most_links_lem}
 pub record Pair (f : List ℕ) (r w : ℕ) (both : Bool) : Type 0 where
   pub next : w ≡ (contents f).next r
   pub test : both ≡ (contents f).link 3 r w && (contents f).link 4 r w
+
+-- A row with one event where a test holds, and with none where it does not.
+pub row_none : {b : Bool} {r : Set} (x : ℕ) → b ≡ false → r ≡ empty → r ≡ (λ j. b && eqb x j)
+unfolding empty
+row_none x p n = n ∙ fun_ext (λ j. ap (λ (c : Bool). c && eqb x j) (sym p))
+
+pub row_one : {x y : ℕ} {b : Bool} {r u : Set} → b ≡ true → r ≡ empty → u ≡ union r (single x) → x ≡ y → u ≡ (λ j. b && eqb y j)
+unfolding empty union single
+row_one {x} p n m c =
+    m ∙ fun_ext (λ j. ap (λ (r : Set). r j || eqb x j) n ∙ ap₂ (λ (b : Bool) (z : ℕ). b && eqb z j) (sym p) c)
 
 module _ (f : List ℕ) (s : Source f) where
   pub readable : Readable f
@@ -66,48 +76,36 @@ module _ (f : List ℕ) (s : Source f) where
   unfolding contents
   old_new e h g = record { low = h; high = omega (arith, law.more_events (contents f)) }
 
-  -- The rows of targets, of exclusive reads (true) or of all events: the event that starts such a link, and the one that it goes to.
-  abbrev pub starts_link : Bool → ℕ → Bool
-  starts_link true e = recording.flagged (decode f) 1 e
-  starts_link false e = is_recorded f e
+  -- The row of an exclusive read and of a recorded event, each with the one event that its added ctrl links go to.
+  pub exclusive_row : (e : ℕ) {b : Bool} → b ≡ recording.flagged (decode f) 1 e
+      → (λ j. b && eqb (controlled (contents f) e) j) ≡ from_exclusive (contents f) e
+  unfolding from_exclusive
+  exclusive_row e p = fun_ext (λ j. ap (λ (b : Bool). b && eqb (controlled (contents f) e) j) (p ∙ flagged_decoded f s 1 e))
 
-  abbrev pub goes_to : Bool → ℕ → ℕ
-  goes_to true e = controlled (contents f) e
-  goes_to false e = after (contents f) e
+  pub following_row : (e : ℕ) {b : Bool} → b ≡ is_recorded f e → (λ j. b && eqb (after (contents f) e) j) ≡ recorded_follows (contents f) e
+  unfolding recorded_follows follows contents is_recorded
+  following_row e p = fun_ext (λ j. ap (λ (b : Bool). b && eqb (after (contents f) e) j) p)
 
-  targets_are : (k : Bool) (e : ℕ) → (λ j. starts_link k e && eqb (goes_to k e) j) ≡ targets (contents f) k e
-  unfolding targets from_exclusive follows contents is_recorded
-  targets_are true e = fun_ext (λ j. ap (λ (b : Bool). b && eqb (controlled (contents f) e) j) (flagged_decoded f s 1 e))
-  targets_are false e = refl
-
-  pub target_none : (k : Bool) (e : ℕ) {b : Bool} {r : Set} → b ≡ starts_link k e → b ≡ false → r ≡ empty → r ≡ targets (contents f) k e
-  unfolding empty
-  target_none k e p q n = n ∙ fun_ext (λ j. ap (λ (c : Bool). c && eqb (goes_to k e) j) (sym q ∙ p)) ∙ targets_are k e
-
-  pub target_one : (k : Bool) (e : ℕ) {x : ℕ} {b : Bool} {r u : Set} → b ≡ starts_link k e → b ≡ true → r ≡ empty → u ≡ union r (single x) → x ≡ goes_to k e
-      → u ≡ targets (contents f) k e
-  unfolding empty union single
-  target_one k e {x} p q n m c =
-      m ∙ fun_ext (λ j. ap (λ (r : Set). r j || eqb x j) n ∙ ap₂ (λ (b : Bool) (z : ℕ). b && eqb z j) (sym q ∙ p) c) ∙ targets_are k e
-
-  pub starts_recorded : (k : Bool) (e : ℕ) → starts_link k e ≡ true → (1 ≤ e) × (e ≤ events f)
+  pub exclusive_bounds : (e : ℕ) → recording.flagged (decode f) 1 e ≡ true → (1 ≤ e) × (e ≤ events f)
   unfolding contents
-  starts_recorded true e p = (let w = flagged_is (contents f) 1 e (sym (flagged_decoded f s 1 e) ∙ p) in (w.low, w.high))
-  starts_recorded false e p = recorded_bounds f e p
+  exclusive_bounds e p = (let w = flagged_is (contents f) 1 e (sym (flagged_decoded f s 1 e) ∙ p) in (w.low, w.high))
 
-  pub targets_out : (k : Bool) (e : ℕ) → 64 ≤ e → targets (contents f) k e ≡ empty
-  targets_out k e h = sym (target_none k e refl (is_false (starts_link k e) (λ p. omega (arith, starts_recorded k e p, (limits f s).0))) refl)
+  pub exclusive_out : (e : ℕ) → 64 ≤ e → from_exclusive (contents f) e ≡ empty
+  exclusive_out e h = sym (row_none _ (is_false (recording.flagged (decode f) 1 e) (λ p. omega (arith, exclusive_bounds e p, (limits f s).0))) refl ∙ exclusive_row e refl)
+
+  pub following_out : (e : ℕ) → 64 ≤ e → recorded_follows (contents f) e ≡ empty
+  following_out e h = sym (row_none _ (is_false (is_recorded f e) (λ p. omega (arith, recorded_bounds f e p, (limits f s).0))) refl ∙ following_row e refl)
 
   -- All ctrl links.
-  casdep_links : compose nodes ((decode f).link 7) (targets (contents f) false) ≡ from_casdep (contents f)
-  unfolding from_casdep compose image targets contents
+  casdep_links : compose nodes ((decode f).link 7) (recorded_follows (contents f)) ≡ from_casdep (contents f)
+  unfolding from_casdep compose image recorded_follows contents
   casdep_links = fun_ext (λ a. fun_ext (λ b. ap (some nodes) (fun_ext (λ e. same_test _ _ (λ p. search (and_both, and_left, and_right)) (λ p.
       let t = link_target f s 7 a e (search and_left) in search (and_both, and_left, and_right, le-leb))))))
 
-  pub ctrl_is : inverse (either ((decode f).link 6) (either (targets (contents f) true) (compose nodes ((decode f).link 7) (targets (contents f) false))))
+  pub ctrl_is : inverse (either ((decode f).link 6) (either (from_exclusive (contents f)) (compose nodes ((decode f).link 7) (recorded_follows (contents f)))))
       ≡ ctrl_into (contents f)
-  unfolding ctrl_into contents targets
-  ctrl_is = ap (λ (r : Rel). inverse (either ((decode f).link 6) (either (targets (contents f) true) r))) casdep_links
+  unfolding ctrl_into contents recorded_follows
+  ctrl_is = ap (λ (r : Rel). inverse (either ((decode f).link 6) (either (from_exclusive (contents f)) r))) casdep_links
 
   -- The sources of the links of one type into one event.
   in_range : (b : ℕ) → NewEvent (contents f) b → (leb 1 b && leb b (new_events (contents f))) ≡ true

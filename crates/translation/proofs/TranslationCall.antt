@@ -13,8 +13,9 @@ use Rattle.recording.specs.Input.{longest}
 use Rattle.recording.proofs.CauseLaws.{cause_goes_on, cause_own, cause_early}
 use Rattle.recording.proofs.Longest.{read_of}
 use Rattle.output.specs.Output.{placed, Fills}
-use Rattle.output.specs.declared.Filled.{Filled}
-use Rattle.output.specs.declared.Filled.TheVariants.{Refused, Written}
+use Rattle.std.specs.Prelude.{Result, Ok, Err}
+use Rattle.refusal.specs.declared.Refusal.{Refusal}
+use Rattle.refusal.specs.declared.Refusal.TheVariants.{NoRoom}
 use Rattle.output.proofs.OutputLaws.{length_placed, placed_placed, part_placed}
 use Rattle.output.proofs.FillLaws.{fills_short, fills_written, fills_other, fills_few}
 use Rattle.translation.specs.Contents.{contents}
@@ -34,11 +35,11 @@ module _ (f : List ℕ) where
       omega (arith, encode_length c, p, q ∙ ap (λ (x : ℕ). links_up_to c x) p)
 
   pub refused_short : (n m : ℕ) (out : List ℕ) → Source f → n ≡ new_events (contents f) → m ≡ links_up_to (chip f) n
-      → length out < 8 + 8 * n + 4 * m → Fills (cause_for source f) (translation f) out (Refused 12) out
+      → length out < 8 + 8 * n + 4 * m → Fills (cause_for source f) (translation f) out (Err NoRoom) out
   refused_short n m out p u v h = fills_short (cause_for source f) (translation f) out (cause_own source f p) (omega (arith, measured n m u v))
 
   -- What is written has at most 1320 bytes, whatever the room.
-  pub few_written : (out : List ℕ) (r : Filled) (left : List ℕ) → Fills (cause_for source f) (translation f) out r left → (n : ℕ) → r ≡ Written n → n ≤ 1320
+  pub few_written : (out : List ℕ) (r : Result ℕ Refusal) (left : List ℕ) → Fills (cause_for source f) (translation f) out r left → (n : ℕ) → r ≡ Ok n → n ≤ 1320
   few_written out r left w = fills_few (cause_for source f) (translation f) out r left w 1320 (λ e. few_bytes f (cause_goes_on source f e))
 
 -- Behind the header there is room for the events.
@@ -83,14 +84,14 @@ module _ (f : List ℕ) (out one two part : List ℕ) (n m : ℕ) (p : Source f)
       ∙ ap (placed out 0) whole
 
   pub all_written : part ≡ placed (take (length two - (8 + 8 * n)) (drop (8 + 8 * n) two)) 0 (link_records (chip f) (512 * suc n))
-      → Fills (cause_for source f) (translation f) out (Written (8 + 8 * n + 4 * m)) (take (8 + 8 * n) two ++ (part ++ drop (length two - (8 + 8 * n)) (drop (8 + 8 * n) two)))
+      → Fills (cause_for source f) (translation f) out (Ok (8 + 8 * n + 4 * m)) (take (8 + 8 * n) two ++ (part ++ drop (length two - (8 + 8 * n)) (drop (8 + 8 * n) two)))
   all_written third =
       let size = measured f n m u v in
       fills_written (cause_for source f) (translation f) out (cause_own source f p) (omega (arith, size)) (8 + 8 * n + 4 * m) size _
       (part_placed two (8 + 8 * n) (link_records (chip f) (512 * suc n)) part (omega (arith, sizes.1)) third ∙ placed_whole)
 
 -- A call on what is read of an input answers, and leaves the output, as one on the input.
-pub fills_input : (input start : List ℕ) → start ≡ take (longest + 1) input → (out : List ℕ) (r : Filled) (left : List ℕ)
+pub fills_input : (input start : List ℕ) → start ≡ take (longest + 1) input → (out : List ℕ) (r : Result ℕ Refusal) (left : List ℕ)
     → Fills (cause_for source start) (translation start) out r left → Fills (cause_for source input) (translation input) out r left
 fills_input input start read out r left w =
     elim (read_of input) [

@@ -9,8 +9,8 @@ use native.Mathlib.Omega.{arith}
 use borrow.Author.Tests.{le-leb}
 use lib.Dec.{leb}
 use lib.ListN.{length, length-append}
-use Rattle.relation.specs.Rel.{Set, inverse, least, count, Next}
-use Rattle.relation.proofs.SetLaws.{Least, least_is}
+use Rattle.relation.specs.Rel.{Set, inverse, count, members}
+use Rattle.relation.proofs.MemberLaws.{Left, left_all, First, left_next, left_none}
 use Rattle.output.specs.Output.{placed}
 use Rattle.output.proofs.OutputLaws.{Placing, placing_none, placing_more}
 use Rattle.translation.specs.Contents.{Contents, contents}
@@ -101,64 +101,69 @@ module _ {f : List ℕ} {n : ℕ} {out₀ : List ℕ} where
         written_more (link_stretch c (512 * b) 512) w p (sym (ap (link_records c) place ∙ records_add (link_record c) (is_link c) (512 * b) 512))
         (omega (arith, links_length c (512 * b), w.counted.same)) (omega (arith, links_within, links_length c (512 * suc b), links_length c (512 * suc n))) q
 
--- The links of a row: what is given, and where the writer stands, at a source or behind all.
+-- The links of a row: what is given, and where the writer stands when some sources are left.
 abbrev pub RowGiven : List ℕ → Set → ℕ → ℕ → ℕ → Type 0
 RowGiven part row t last n = (t < 8) × (last < 256) × (n < 256) × (4 * (n + count 64 row) ≤ length part)
 
-pub record RowAt (part₀ : List ℕ) (row : Set) (t last n a m : ℕ) (part : List ℕ) : Type 0 where
-  pub given : RowGiven part₀ row t last n
-  pub high : a ≤ 64
-  pub member : a < 64 → row a ≡ true
-  pub number : m ≡ n + count a row
-  pub placing : Placing part₀ (4 * n) (records (row_record t last n row) row a) part
+pub record RowAt (part₀ : List ℕ) (row : Set) (t last n : ℕ) (left : List ℕ) (m : ℕ) (part : List ℕ) : Type 0 where
+  pub upto : ℕ
+  pub left_is : Left row upto left
+  pub number : m ≡ n + count upto row
+  pub placing : Placing part₀ (4 * n) (records (row_record t last n row) row upto) part
 
 row_length : (row : Set) (t last n a : ℕ) → length (records (row_record t last n row) row a) ≡ 4 * count a row
 unfolding row_record
 row_length row t last n a = records_length 4 (row_record t last n row) row (λ k. refl) a
 
-module _ {part₀ : List ℕ} {row : Set} {t last n : ℕ} where
-  pub row_first : {a : ℕ} → RowGiven part₀ row t last n → a ≡ least 64 row → RowAt part₀ row t last n a n part₀
+module _ {part₀ : List ℕ} {row : Set} {t last n : ℕ} (given : RowGiven part₀ row t last n) where
+  pub row_first : {left : List ℕ} → left ≡ members row → RowAt part₀ row t last n left n part₀
   unfolding count records
-  row_first {a} given e =
-      let l : Least 64 row a = subst (Least 64 row) (sym e) (least_is 64 row) in
-      let none : (j : ℕ) → 0 ≤ j → j < a → row j ≡ false = λ j u v. l.smaller j v in
+  row_first e =
       record {
-        given = given;
-        high = l.bound;
-        member = l.member;
-        number = omega (arith, count_none 0 a row (omega arith) none);
-        placing = placing_none part₀ (4 * n) _ (records_none (row_record t last n row) row 0 a (omega arith) none) (omega (arith, given));
+        upto = 0;
+        left_is = subst (Left row 0) (sym e) (left_all row);
+        number = omega arith;
+        placing = placing_none part₀ (4 * n) _ refl (omega (arith, given));
       }
 
-  module _ {a m : ℕ} {part : List ℕ} (w : RowAt part₀ row t last n a m part) where
-    pub row_room : a < 64 → (4 * m + 4 ≤ length part) × (m < 512)
-    row_room h =
-        let c = count_lt a 64 row h (w.member h) in
-        (omega (arith, w.number, w.given, w.placing.long), omega (arith, w.number, w.given, count_le 64 row))
+  -- Where the smallest source left is a, what the next record has.
+  module _ {left more : List ℕ} {a m : ℕ} {part : List ℕ} (w : RowAt part₀ row t last n left m part) (is : left ≡ a ∷ more) where
+    next : First row w.upto a more
+    next = left_next w.left_is is
 
-    pub row_next : {x k : ℕ} {more : List ℕ} → a < 64 → x ≡ chained last (m + 1) → more ≡ placed part (4 * m) (x ∷ t ∷ a ∷ 0 ∷ []) → Next row (a + 1) k
-        → RowAt part₀ row t last n k (m + 1) more
+    passed : count a row ≡ count w.upto row
+    passed = count_none w.upto a row next.next.low next.next.before
+
+    pub row_room : (4 * m + 4 ≤ length part) × (m < 512)
+    row_room =
+        let c = count_lt a 64 row next.inside next.member in
+        (omega (arith, w.number, passed, given, w.placing.long, c), omega (arith, w.number, passed, given, c, count_le 64 row))
+
+    pub row_next : {x : ℕ} {out : List ℕ} → x ≡ chained last (m + 1) → out ≡ placed part (4 * m) (x ∷ t ∷ a ∷ 0 ∷ [])
+        → RowAt part₀ row t last n more (m + 1) out
     unfolding row_record
-    row_next {x} {k} h p r next =
+    row_next {x} p r =
         let R = row_record t last n row in
-        let one_more = count_none (a + 1) k row next.low next.before ∙ count_next_yes a row (w.member h) in
-        let after_it : m + 1 ≡ suc (n + count a row) = omega (arith, w.number) in
+        let one_more = count_next_yes a row next.member in
+        let after_it : m + 1 ≡ suc (n + count a row) = omega (arith, w.number, passed) in
         let made : (x ∷ t ∷ a ∷ 0 ∷ []) ≡ R a = ap (λ (y : ℕ). y ∷ t ∷ a ∷ 0 ∷ []) (p ∙ ap (chained last) after_it) in
-        let all = records_none R row (a + 1) k next.low next.before ∙ ap (records R row) (add-one a) ∙ records_yes R row a (w.member h) in
+        let all = ap (records R row) (add-one a) ∙ records_yes R row a next.member ∙ ap (λ (l : List ℕ). l ++ R a) (records_none R row w.upto a next.next.low next.next.before) in
         record {
-          given = w.given;
-          high = next.high;
-          member = next.member;
-          number = omega (arith, w.number, one_more);
-          placing = placing_more (x ∷ t ∷ a ∷ 0 ∷ []) w.placing (omega (arith, w.number, row_length row t last n a)) r
-              (ap (◌++◌ (records R row a)) made ∙ sym all)
-              (omega (arith, w.given, row_length row t last n k, count_mono k 64 row next.high));
+          upto = a + 1;
+          left_is = next.left;
+          number = omega (arith, w.number, passed, one_more);
+          placing = placing_more (x ∷ t ∷ a ∷ 0 ∷ []) w.placing (omega (arith, w.number, row_length row t last n w.upto)) r
+              (ap (◌++◌ (records R row w.upto)) made ∙ sym all)
+              (omega (arith, given, row_length row t last n (a + 1), count_mono (a + 1) 64 row (omega (arith, next.inside))));
         }
 
-    pub row_all : 64 ≤ a → (m ≡ n + count 64 row) × (part ≡ placed part₀ (4 * n) (records (row_record t last n row) row 64))
-    row_all h =
-        let e : a ≡ 64 = omega (arith, w.high) in
-        (w.number ∙ ap (λ (y : ℕ). n + count y row) e, w.placing.done ∙ ap (λ (y : ℕ). placed part₀ (4 * n) (records (row_record t last n row) row y)) e)
+  pub row_all : {left : List ℕ} {m : ℕ} {part : List ℕ} → RowAt part₀ row t last n left m part → left ≡ []
+      → (m ≡ n + count 64 row) × (part ≡ placed part₀ (4 * n) (records (row_record t last n row) row 64))
+  row_all w e =
+      let none = left_none w.left_is e in (
+        w.number ∙ ap (λ (y : ℕ). n + y) (sym (count_none w.upto 64 row none.low none.before)),
+        w.placing.done ∙ ap (placed part₀ (4 * n)) (sym (records_none (row_record t last n row) row w.upto 64 none.low none.before)),
+      )
 
 -- The links of a row, by their numbers.
 module _ (s : Contents) (b t : ℕ) (row : Set) (h : t < 8) (e : row ≡ inverse (new_link s t) b) where

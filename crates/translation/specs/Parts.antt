@@ -1,5 +1,5 @@
 -- What the parts of the translator ask for and answer.
-use Rattle.std.specs.Prelude.{◌≡◌, Bool, true, false, ◌&&◌, List, [], ◌∷◌, ℕ, suc, ◌+◌, ◌<◌, ◌≤◌, leb, get_or}
+use Rattle.std.specs.Prelude.{◌≡◌, ◌&&◌, List, [], ◌∷◌, ℕ, suc, ◌+◌, ◌<◌, ◌≤◌, leb, get_or}
 use Rattle.relation.specs.Rel.{Set, Rel, either, inverse, count}
 use Rattle.relation.specs.Bits.{bit}
 use Rattle.layout.specs.Layout.{source}
@@ -18,10 +18,9 @@ module _ (s : Contents) where
     pub low : 1 ≤ e
     pub high : e ≤ new_events s
 
-  -- Where added ctrl links go: from each exclusive read, or from each event to the one directly after it.
-  unfoldable pub targets : Bool → Rel
-  targets true e b = from_exclusive s e b
-  targets false e b = (leb 1 e && leb e s.events) && follows s e b
+  -- From each recorded event to the one directly after it.
+  unfoldable pub recorded_follows : Rel
+  recorded_follows e b = (leb 1 e && leb e s.events) && follows s e b
 
   -- The ctrl links of the translation, from target to source.
   unfoldable pub ctrl_into : Rel

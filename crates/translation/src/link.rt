@@ -1,13 +1,13 @@
 // The links of the translation of a source file that loads, as rows of sources by target and type, and how many there are.
 
-ghost use Rattle.std.specs.Prelude.{◌≡◌, ◌*◌, ◌≤◌, ◌<◌};
+ghost use Rattle.std.specs.Prelude.{◌≡◌, ℕ, [], ◌*◌, ◌≤◌, ◌<◌, get_or};
 ghost use Rattle.relation.specs.Bits.{bit, edge};
 ghost use Rattle.layout.specs.Layout.{events};
 ghost use Rattle.translation.specs.Contents.{contents};
-ghost use Rattle.translation.specs.Translate.{new_events, controlled};
+ghost use Rattle.translation.specs.Translate.{new_events, controlled, from_exclusive};
 ghost use Rattle.translation.specs.Encode.{links_before, links_up_to};
 ghost use Rattle.translation.specs.Translation.{chip};
-ghost use Rattle.translation.specs.Parts.{Source, NewEvent, Ready, RowsInto, Ends, targets, ctrl_into};
+ghost use Rattle.translation.specs.Parts.{Source, NewEvent, Ready, RowsInto, Ends, recorded_follows, ctrl_into};
 
 use crate::event;
 use layout::field;
@@ -30,33 +30,36 @@ pub fn controlled(file: &[u8], r: usize) -> usize
     event::after(file, r)
 }
 
-// Where an added ctrl link goes: from e as an exclusive read, or as the end of a casdep link.
-pub fn target_row(file: &[u8], exclusive: bool, e: usize) -> Row
+// Where the added ctrl link of e goes, where e is an exclusive read.
+fn from_exclusive(file: &[u8], e: usize) -> Row
     requires { Source file.now }
-    ensures { bit result ≡ targets (contents file.now) exclusive e }
+    ensures { bit result ≡ from_exclusive (contents file.now) e }
 {
-    if exclusive {
-        if !field::is_flagged(file, e, 1) {
-            return row::none();
-        }
-        return row::with(row::none(), controlled(file, e));
+    if !field::is_flagged(file, e, 1) {
+        return row::none();
     }
+    row::with(row::none(), controlled(file, e))
+}
+
+// The event directly after e: where the ctrl links go that are added for casdep links to e.
+fn following(file: &[u8], e: usize) -> Row
+    requires { Source file.now }
+    ensures { bit result ≡ recorded_follows (contents file.now) e }
+{
     if !field::is_recorded(file, e) {
         return row::none();
     }
     row::with(row::none(), event::after(file, e))
 }
 
-// The same for every event, as a grid.
-pub fn target_rows(file: &[u8], exclusive: bool) -> Grid
-    requires { Source file.now }
-    ensures { edge result ≡ targets (contents file.now) exclusive }
+// The grid with the row that a function gives for each event.
+fn by_rows<F: Fn(usize) -> Row>(row: F) -> Grid
+    requires { (e : ℕ) → e < 64 → F.pre row e }
+    ensures { (e : ℕ) → e < 64 → F.post row e (get_or result e []) }
 {
     let mut h = grid::empty();
-    let mut e: usize = 0;
-    while e < 64 {
-        h[e] = target_row(file, exclusive, e);
-        e += 1;
+    for e in 0..64 {
+        h[e] = row(e);
     }
     h
 }
@@ -67,8 +70,20 @@ pub fn ctrl(file: &[u8]) -> Grid
     ensures { edge result ≡ ctrl_into (contents file.now) }
 {
     let kept = graph::links(file, 6);
-    let casdep = grid::then(graph::links(file, 7), target_rows(file, false));
-    grid::inverse(grid::or(kept, grid::or(target_rows(file, true), casdep)))
+    let exclusive = by_rows(
+        |e|
+            requires { Source file.now }
+            ensures { bit result ≡ from_exclusive (contents file.entry.now) e }
+        { from_exclusive(file, e) },
+    );
+    let following = by_rows(
+        |e|
+            requires { Source file.now }
+            ensures { bit result ≡ recorded_follows (contents file.entry.now) e }
+        { following(file, e) },
+    );
+    let casdep = grid::then(graph::links(file, 7), following);
+    grid::inverse(grid::or(kept, grid::or(exclusive, casdep)))
 }
 
 // The sources of the links into b, with a row for each type: those of the source file but for types 0, 6 and 7.
@@ -88,12 +103,9 @@ pub fn links_up_to(file: &[u8], ctrl: Grid, b: usize, n: usize) -> usize
     requires { Ready file.now (edge ctrl) × NewEvent (contents file.now) b × (n ≡ links_before (chip file.now) (512 * b)) }
     ensures { (result ≡ links_up_to (chip file.now) b) × (result ≤ 232) }
 {
-    let rows = rows(file, ctrl, b);
     let mut m = n;
-    let mut t: usize = 0;
-    while t < 8 {
-        m += row::size(rows[t]);
-        t += 1;
+    for row in rows(file, ctrl, b) {
+        m += row::size(row);
     }
     m
 }
@@ -104,13 +116,10 @@ pub fn ends(file: &[u8], ctrl: Grid, n: usize) -> [u8; 64]
     ensures { Ends file.now n result }
 {
     let mut at = [0u8; 64];
-    let mut m: usize = 0;
-    let mut b: usize = 1;
-    while b <= n {
-        let z = links_up_to(file, ctrl, b, m);
-        at[b] = z as u8;
-        m = z;
-        b += 1;
+    let mut m = 0;
+    for b in 1..=n {
+        m = links_up_to(file, ctrl, b, m);
+        at[b] = m as u8;
     }
     at
 }

@@ -6,7 +6,7 @@ ghost use Rattle.relation.specs.Bits.{bit, edge};
 ghost use Rattle.output.specs.Output.{placed};
 ghost use Rattle.translation.specs.Contents.{contents};
 ghost use Rattle.translation.specs.Translate.{new_events};
-ghost use Rattle.translation.specs.Encode.{chained, links_before, links_up_to, header, event_record, event_records, link_records, records};
+ghost use Rattle.translation.specs.Encode.{chained, links_before, links_up_to, header, event_records, link_records, records};
 ghost use Rattle.translation.specs.Translation.{chip};
 ghost use Rattle.translation.specs.Parts.{Source, NewEvent, Ready, Ends, row_record, link_stretch};
 
@@ -35,36 +35,17 @@ pub fn chained(last: usize, n: usize) -> usize
     0
 }
 
-// The record of event e, whose first link is given.
-pub fn event_record(file: &[u8], e: usize, first: usize) -> [u8; 8]
-    requires { Source file.now × NewEvent (contents file.now) e × (first < 256) × (first ≡ chained (links_up_to (chip file.now) e) (links_before (chip file.now) (512 * e))) }
-    ensures { result ≡ event_record (chip file.now) e }
-{
-    [
-        event::after(file, e) as u8,
-        event::kept_or(file, e, 1, 3) as u8,
-        event::new_mode(file, e) as u8,
-        event::new_flag(file, e) as u8,
-        event::kept_or(file, e, 4, 0) as u8,
-        event::kept_or(file, e, 5, 0) as u8,
-        event::kept_or(file, e, 6, 0) as u8,
-        first as u8,
-    ]
-}
-
 // Writes the event records behind the header, where there are n events.
 pub fn write_events(out: &mut [u8], file: &[u8], ends: [u8; 64], n: usize)
     requires { Source file.now × Ends file.now n ends × (n ≡ new_events (contents file.now)) × (8 + 8 * n ≤ length out.old) }
     ensures { out.new ≡ placed out.old 8 (event_records (chip file.now) (suc n)) }
 {
-    let mut before: usize = 0;
-    let mut e: usize = 1;
-    while e <= n {
+    let mut before = 0;
+    for e in 1..=n {
         let last = ends[e] as usize;
-        let bytes = event_record(file, e, chained(last, before));
-        output::put(out, 8 * e, &bytes);
+        let record = event::record(file, e, chained(last, before));
+        output::put(out, 8 * e, &record);
         before = last;
-        e += 1;
     }
 }
 
@@ -75,12 +56,10 @@ pub fn write_row(part: &mut [u8], row: Row, t: usize, last: usize, n: usize) -> 
     ensures { (result ≡ n + count 64 (bit row)) × (part.new ≡ placed part.old (4 * n) (records (row_record t last n (bit row)) (bit row) 64)) }
 {
     let mut m = n;
-    let mut a = row::first(row);
-    while a < 64 {
-        let bytes = [chained(last, m + 1) as u8, t as u8, a as u8, 0];
-        output::put(part, 4 * m, &bytes);
+    for a in row::members(row) {
+        let record = [chained(last, m + 1) as u8, t as u8, a as u8, 0];
+        output::put(part, 4 * m, &record);
         m += 1;
-        a = row::next(row, a + 1);
     }
     m
 }
@@ -99,11 +78,8 @@ pub fn write_into(
 {
     let rows = link::rows(file, ctrl, b);
     let mut m = n;
-    let mut t: usize = 0;
-    while t < 8 {
-        let z = write_row(part, rows[t], t, last, m);
-        m = z;
-        t += 1;
+    for t in 0..8 {
+        m = write_row(part, rows[t], t, last, m);
     }
     m
 }
@@ -113,11 +89,8 @@ pub fn write_links(part: &mut [u8], file: &[u8], ctrl: Grid, ends: [u8; 64], n: 
     requires { Ends file.now n ends × Ready file.now (edge ctrl) × (n ≡ new_events (contents file.now)) × (4 * links_up_to (chip file.now) n ≤ length part.old) }
     ensures { part.new ≡ placed part.old 0 (link_records (chip file.now) (512 * suc n)) }
 {
-    let mut m: usize = 0;
-    let mut b: usize = 1;
-    while b <= n {
-        let z = write_into(part, file, ctrl, b, m, ends[b] as usize);
-        m = z;
-        b += 1;
+    let mut m = 0;
+    for b in 1..=n {
+        m = write_into(part, file, ctrl, b, m, ends[b] as usize);
     }
 }

@@ -15,10 +15,9 @@ use Rattle.models.specs.Graph.{graph, base, Within}
 use Rattle.models.specs.Term.{Term, ◌⁺, ⟦◌⟧, eval}
 use Rattle.models.specs.Rules.{Model, verdict}
 use Rattle.models.proofs.Agree.{tests, agrees}
-use Rattle.verdict.specs.declared.Verdict.{Verdict}
-use Rattle.verdict.specs.Answer.{answers}
-use Rattle.verdict.specs.Shown.{events, Shown}
-use Rattle.verdict.proofs.ShownMeaning.{term_inside, answers_injective}
+use Rattle.verdict.specs.Verdict.{Verdict, rule_of, events}
+use Rattle.verdict.specs.Shown.{Shown}
+use Rattle.verdict.proofs.ShownMeaning.{term_inside}
 
 -- Steps of the graph are steps of the test, as many.
 module _ (r : Recording ℕ) (within : Within nodes r) where
@@ -41,13 +40,13 @@ module _ (r : Recording ℕ) (within : Within nodes r) where
 
   -- What is shown under rules 3 and 5.
   module _ (steps closing : Rel) (M : Model) (v : Verdict) (w : Shown steps closing M (base nodes r) v) where
-    named : (n : ℕ) → v.answer ≡ answers n → verdict nodes (base nodes r) M ≡ n
-    named n e = answers_injective (verdict nodes (base nodes r) M) n (sym w.answer ∙ e)
+    named : (n : ℕ) → rule_of v ≡ n → verdict nodes (base nodes r) M ≡ n
+    named n e = sym w.answer ∙ e
 
-    pub fewest_3 : Inside steps → Inside closing → v.answer ≡ answers 3 → (n : ℕ) → ClosedWalk steps closing n → length (events v) ≤ suc n
+    pub fewest_3 : Inside steps → Inside closing → rule_of v ≡ 3 → (n : ℕ) → ClosedWalk steps closing n → length (events v) ≤ suc n
     fewest_3 i j e = at_most_steps steps closing i j (events v) (w.broken3 (named 3 e))
 
-    pub fewest_5 : v.answer ≡ answers 5 → (a : ℕ) (p : ⟦ M.order ⁺ ⟧ (graph r) a a) → length (events v) ≤ count p
+    pub fewest_5 : rule_of v ≡ 5 → (a : ℕ) (p : ⟦ M.order ⁺ ⟧ (graph r) a a) → length (events v) ≤ count p
     fewest_5 e a p =
         let inside = term_inside r within M.order in
         let (n, long, round) = plus_round M.order p in

@@ -1,18 +1,23 @@
 -- Laws of `some` and of the first pair of a relation.
 use mathlib.Core.Path.{◌≡◌, refl, sym, ap, ap₂, ◌∙◌, fun_ext}
+use mathlib.Core.List.{List, [], ◌∷◌}
 use mathlib.Core.Bool.{Bool, true, false, not, ◌&&◌, ◌||◌, false≢true, and-false, or-false, or-true}
-use Prim.Native.Nat.{ℕ, ◌+◌, ◌<◌, ◌≤◌}
+use Prim.Native.Nat.{ℕ, ◌<◌, ◌≤◌}
 use native.Mathlib.Omega.{arith}
 use borrow.Author.Tests.{lt-ltb}
 use lib.Dec.{eqb, ltb}
-use Rattle.relation.specs.Rel.{Set, Rel, Next, union, intersection, difference, either, inverse, identity, optional, some, image, least, nodes}
+use Rattle.std.specs.Prelude.{Option, Some, None}
+use Rattle.relation.specs.Rel.{Set, Rel, union, intersection, difference, either, inverse, identity, optional, some, image, least, smallest, members, nodes}
 use Rattle.relation.specs.Ring.{under}
 use Rattle.relation.proofs.Truth.{is_false, same_test, and_right, and_both}
-use Rattle.relation.proofs.SetLaws.{least_is, Seeking, seeking_first, seeking_next, seeking_none, seeking_found}
+use Rattle.relation.proofs.SetLaws.{least_is}
+use Rattle.relation.proofs.SmallestLaws.{smallest_some, smallest_none, smallest_member, smallest_nothing}
+use Rattle.relation.proofs.MemberLaws.{Searching, searching_start, searching_member, searching_next, searching_found, searching_none}
 use Rattle.relation.proofs.Meaning.{mem_below, below_mem, some_sound, some_complete}
 use Rattle.models.specs.Recording.{R, W}
 use Rattle.models.specs.Graph.{Base}
-use Rattle.models.specs.Rules.{unread, unordered}
+use Rattle.models.specs.Rules.{anywhere, unread, unordered}
+use Rattle.verdict.specs.declared.rules.Pair.{Pair}
 use Rattle.verdict.specs.Shown.{first_of, second_of, FirstPair}
 
 pub none_some : (s : Set) → ((x : ℕ) → x < 64 → s x ≡ false) → some nodes s ≡ false
@@ -26,6 +31,13 @@ some_below s h = some_complete nodes s (least 64 s) (mem_below 64 (least 64 s) h
 
 pub some_above : (s : Set) → 64 ≤ least 64 s → some nodes s ≡ false
 some_above s h = none_some s (λ x q. (least_is 64 s).smaller x (omega arith))
+
+-- So it is as s has a smallest member or none.
+pub some_smallest : (s : Set) (k : ℕ) → smallest s ≡ Some k → some nodes s ≡ true
+some_smallest s k e = let (p, h) = smallest_some s k e in some_below s (omega arith)
+
+pub none_smallest : (s : Set) → smallest s ≡ None → some nodes s ≡ false
+none_smallest s e = none_some s (smallest_nothing s e)
 
 -- The image of all numbers below 64: where some event leads.
 image_all : (r : Rel) → image nodes (under 64) r ≡ (λ j. some nodes (λ i. r i j))
@@ -60,68 +72,95 @@ unordered_is {writes} {loc} {co} e f g B p q r =
     same_pair true w l true c d = ap (λ (x : Bool). (w && l) && not x) (or-true (c || d))
     same_pair true w l false c d = ap (λ (x : Bool). (w && l) && not x) (or-false (c || d))
 
+-- The events that r leads from.
+abbrev sources : Rel → Set
+sources r a = some nodes (r a)
+
+-- The first pair by the smallest events, and none where r leads from no event.
+pub first_pair : {r : Rel} {a b : ℕ} → smallest (sources r) ≡ Some a → smallest (r a) ≡ Some b → FirstPair r (Some (record { first = a; second = b }))
+unfolding first_of second_of
+first_pair {r} {a} {b} e f =
+    let (p, h) = smallest_some (sources r) a e in
+    let (q, k) = smallest_some (r a) b f in
+    record { none = tt; pair = (p, q ∙ ap (λ (x : ℕ). least 64 (r x)) p, h, k) }
+
+pub no_pair : {r : Rel} → smallest (sources r) ≡ None → FirstPair r None
+unfolding first_of
+no_pair {r} e = record { none = smallest_none (sources r) e; pair = tt }
+
+-- An event that r leads from leads to one.
+pub leads_to : (r : Rel) (a : ℕ) → smallest (sources r) ≡ Some a → smallest (r a) ≡ None → ⊥
+leads_to r a e f =
+    let (x, m, h) = some_sound nodes (r a) (smallest_member (sources r) a e) in
+    false≢true (sym (smallest_nothing (r a) f x (below_mem 64 x m)) ∙ h)
+
+-- A relation has a pair, or none.
+pub pair_found : {r : Rel} {p : Pair} → FirstPair r (Some p) → anywhere nodes r ≡ true
+unfolding anywhere first_of
+pair_found {r} {p} w = some_below (sources r) (let (e, f, g, h) = w.pair in omega arith)
+
+pub pair_none : {r : Rel} → FirstPair r None → anywhere nodes r ≡ false
+unfolding anywhere first_of
+pair_none {r} w = some_above (sources r) (omega (arith, w.none))
+
 -- The search goes through the writes a for one with an unsettled peer, and through the peers b of a for an unsettled one.
 module _ (writes : Set) (loc settled : Rel) where
-  abbrev has_unsettled : Set
-  has_unsettled a = some nodes (unsettled_of writes loc settled a)
+  abbrev unsettled : Rel
+  unsettled = unsettled_of writes loc settled
 
-  abbrev pub Passing : ℕ → Type 0
-  Passing a = Seeking writes has_unsettled a
+  -- Of the writes these are left, and no other has an unsettled peer.
+  abbrev pub Passing : List ℕ → Type 0
+  Passing items = Searching writes (sources unsettled) items
 
-  no_write : (a : ℕ) → writes a ≡ false → has_unsettled a ≡ false
+  no_write : (a : ℕ) → writes a ≡ false → sources unsettled a ≡ false
   unfolding unsettled_of
   no_write a e = none_some _ (λ x h. rw e)
 
-  pub pairs_first : (a : ℕ) → a ≡ least 64 writes → Passing a
-  pairs_first = seeking_first writes has_unsettled no_write
+  pub pairs_first : {items : List ℕ} → items ≡ members writes → Passing items
+  pairs_first = searching_start no_write
 
-  pub pairs_none : (a b : ℕ) → Passing a → 64 ≤ a → FirstPair (unsettled_of writes loc settled) a b
-  unfolding first_of
-  pairs_none a b w h = record { first = seeking_none writes has_unsettled a w h; second = λ q. absurd (omega arith) }
+  pub pairs_none : {items : List ℕ} → Passing items → items ≡ [] → FirstPair unsettled None
+  pairs_none w e = no_pair (searching_none no_write w e)
 
-  -- In a's turn: b goes through its peers.
-  module _ (a : ℕ) (w : Passing a) (lt : a < 64) (peers ordered : Set) (p : peers ≡ intersection writes (loc a)) (q : ordered ≡ settled a)
-      (b : ℕ) (v : Seeking peers (difference peers ordered) b) where
-    unsettled_is : difference peers ordered ≡ unsettled_of writes loc settled a
-    unfolding unsettled_of
-    unsettled_is = fun_ext (λ x. rw (w.member lt) (ap (λ (f : Set). f x) (ap₂ difference p q)))
+  -- In a's turn: of its peers these are left, and no other is unsettled.
+  module _ (a : ℕ) where
+    abbrev peers : Set
+    peers = intersection writes (loc a)
 
-    pub pairs_next : 64 ≤ b → (n : ℕ) → Next writes (a + 1) n → Passing n
-    pairs_next h =
-        let all : b ≡ least 64 (unsettled_of writes loc settled a) = seeking_none peers _ b v h ∙ ap (least 64) unsettled_is in
-        seeking_next writes has_unsettled no_write a w (some_above _ (omega arith))
+    abbrev pub Turn : List ℕ → Type 0
+    Turn left = Searching peers (unsettled a) left
 
-    pub pairs_found : b < 64 → ordered b ≡ false → FirstPair (unsettled_of writes loc settled) a b
-    unfolding first_of second_of difference
-    pairs_found h e =
-        let here : difference peers ordered b ≡ true = and_both (peers b) (not (ordered b)) (v.member h) (ap not e) in
-        let there : unsettled_of writes loc settled a b ≡ true = ap (λ (f : Set). f b) (sym unsettled_is) ∙ here in
-        let first : a ≡ first_of (unsettled_of writes loc settled)
-        = seeking_found writes has_unsettled a w lt (some_complete nodes _ b (mem_below 64 b h) there) in
-        record {
-          first = first;
-          second = λ g. seeking_found peers (difference peers ordered) b v h here
-              ∙ ap (least 64) unsettled_is ∙ ap (λ (k : ℕ). least 64 (unsettled_of writes loc settled k)) first;
-        }
+    no_peer : (b : ℕ) → peers b ≡ false → unsettled a b ≡ false
+    unfolding unsettled_of difference
+    no_peer b e = ap (λ (x : Bool). writes a && (x && not (settled a b))) e ∙ and-false (writes a)
 
--- Where b is no peer it is not an unsettled one; where it is ordered neither.
-pub no_peer : (peers ordered : Set) (b : ℕ) → peers b ≡ false → difference peers ordered b ≡ false
-unfolding difference
-no_peer peers ordered b e = ap (λ (x : Bool). x && not (ordered b)) e
+    settled_peer : (b : ℕ) → settled a b ≡ true → unsettled a b ≡ false
+    unfolding unsettled_of difference
+    settled_peer b e = ap (λ (x : Bool). writes a && (peers b && not x)) e ∙ ap (λ (x : Bool). writes a && x) (and-false (peers b)) ∙ and-false (writes a)
 
-pub ordered_peer : (peers ordered : Set) (b : ℕ) → ordered b ≡ true → difference peers ordered b ≡ false
-unfolding difference
-ordered_peer peers ordered b e = ap (λ (x : Bool). peers b && not x) e ∙ and-false (peers b)
+    pub turn_first : {s : Set} {left : List ℕ} → left ≡ members s → s ≡ peers → Turn left
+    turn_first e p = searching_start no_peer (e ∙ ap members p)
 
--- The first pair by the set of events that r leads from.
-pub first_of_pairs : (r : Rel) {back : Rel} {all from : Set} {a : ℕ} → all ≡ under 64 → back ≡ inverse r → from ≡ image nodes all back → a ≡ least 64 from → a ≡ first_of r
-unfolding first_of inverse
-first_of_pairs r p q s e = e ∙ ap (least 64) (s ∙ ap₂ (image nodes) p q ∙ image_all (inverse r))
+    module _ {left : List ℕ} (v : Turn left) where
+      pub turn_next : {b : ℕ} {more : List ℕ} → left ≡ b ∷ more → settled a b ≡ true → Turn more
+      turn_next {b} f e = searching_next no_peer v f (settled_peer b e)
 
-pub first_none : {r : Rel} {a b : ℕ} → a ≡ first_of r → 64 ≤ a → FirstPair r a b
-first_none e h = record { first = e; second = λ q. absurd (omega arith) }
+      module _ {items rest : List ℕ} (w : Passing items) (turn : items ≡ a ∷ rest) where
+        pub pairs_next : left ≡ [] → Passing rest
+        pairs_next e = searching_next no_write w turn (none_some (unsettled a) (smallest_nothing (unsettled a) (searching_none no_peer v e)))
 
-pub first_pair : {r : Rel} {s : Set} {a b : ℕ} → a ≡ first_of r → s ≡ r a → b ≡ least 64 s → FirstPair r a b
-unfolding second_of
-first_pair {r} e p q =
-    record { first = e; second = λ h. q ∙ ap (least 64) (p ∙ ap r e) }
+        pub pairs_found : {b : ℕ} {more : List ℕ} → left ≡ b ∷ more → settled a b ≡ false → FirstPair unsettled (Some (record { first = a; second = b }))
+        unfolding unsettled_of difference
+        pairs_found {b} f e =
+            let second : smallest (unsettled a) ≡ Some b = searching_found no_peer v f there in
+            let (k, h) = smallest_some (unsettled a) b second in
+            first_pair (searching_found no_write w turn (some_complete nodes (unsettled a) b (mem_below 64 b h) there)) second
+          where
+            there : unsettled a b ≡ true
+            there = and_both (writes a) _ (searching_member no_write w turn) (and_both (peers b) _ (searching_member no_peer v f) (ap not e))
+
+-- The smallest event that r leads from, by the image of all events under its inverse.
+pub smallest_source : (r : Rel) {back : Rel} {all from : Set} {p : Option ℕ} → all ≡ under 64 → back ≡ inverse r → from ≡ image nodes all back → p ≡ smallest from
+    → p ≡ smallest (sources r)
+unfolding inverse
+smallest_source r p q s e = e ∙ ap smallest (s ∙ ap₂ (image nodes) p q ∙ image_all (inverse r))

@@ -1,9 +1,9 @@
 -- What a verdict says and shows means: the rules of the execution graph; every event exactly once where it is allowed;
 -- and what breaks rule 1, 2 or 4 where it is that.
-use mathlib.Core.Path.{◌≡◌, refl, sym, ap, subst, ◌∙◌}
+use mathlib.Core.Path.{◌≡◌, refl, sym, subst, ◌∙◌}
 use mathlib.Core.Bool.{true, false, false≢true}
 use mathlib.Core.Logic.{◌↔◌}
-use Prim.Native.Nat.{ℕ, zero, suc, ◌<◌, ◌≤◌}
+use Prim.Native.Nat.{ℕ, ◌<◌, ◌≤◌}
 use native.Mathlib.Omega.{arith}
 use lib.Dec.{T}
 use Rattle.relation.specs.Rel.{Set, Rel, some, least, diagonal, plus, nodes}
@@ -19,9 +19,8 @@ use Rattle.models.specs.Term.{Term, eval}
 use Rattle.models.specs.Rules as models
 use Rattle.models.specs.Rules.{Model, broken_pair, anywhere, unread, unordered, failures, verdict}
 use Rattle.models.proofs.Agree.{tests, agrees, recording_verdict, recording_allowed}
-use Rattle.verdict.specs.declared.Verdict.{Verdict}
-use Rattle.verdict.specs.Answer.{answers}
-use Rattle.verdict.specs.Shown.{first_of, second_of, events, Shown}
+use Rattle.verdict.specs.Verdict.{Verdict, rule_of, events}
+use Rattle.verdict.specs.Shown.{first_of, second_of, Shown}
 use Rattle.models.proofs.FirstLaws.{test_of, positive, distinct, named, first_passes, first_fails}
 
 -- The least of a set that has an event is in it.
@@ -88,25 +87,16 @@ module _ (r : Recording ℕ) (within : Within nodes r) where
   no_event_above : (j : ℕ) → 64 ≤ j → event r j ≡ false
   no_event_above j h = is_false (event r j) (λ e. let low = event_below j (holds _ e) in omega arith)
 
--- The answer of a number is that of no other number.
-pub answers_injective : (n m : ℕ) → answers n ≡ answers m → n ≡ m
-answers_injective zero zero e = refl
-answers_injective zero (suc m) e = cc
-answers_injective (suc n) zero e = cc
-answers_injective (suc n) (suc m) e = cc
-
--- Over the base of a recording the answer is the model's verdict of its execution graph: allowed exactly where no rule fails.
+-- Over the base of a recording the rule that is said is the model's verdict of its execution graph: none exactly where no rule fails.
 module _ (steps closing : Rel) (M : Model) (v : Verdict) (r : Recording ℕ) (within : Within nodes r) (w : Shown steps closing M (base nodes r) v) where
-  pub answer_means : (n : ℕ) × (v.answer ≡ answers n) × models.Verdict M (graph r) n
-  answer_means = (verdict nodes (base nodes r) M, w.answer, recording_verdict nodes r within M)
+  pub answer_means : models.Verdict M (graph r) (rule_of v)
+  answer_means = subst (models.Verdict M (graph r)) (sym w.answer) (recording_verdict nodes r within M)
 
-  pub allowed_means : (v.answer ≡ answers 0) ↔ models.Allowed M (graph r)
+  pub allowed_means : (rule_of v ≡ 0) ↔ models.Allowed M (graph r)
   allowed_means =
-      let (f, g) = recording_allowed nodes r within M in
-      (λ e. f (answers_injective (verdict nodes (base nodes r) M) 0 (sym w.answer ∙ e)), λ a. w.answer ∙ ap answers (g a))
+      let (f, g) = recording_allowed nodes r within M in (λ e. f (sym w.answer ∙ e), λ a. w.answer ∙ g a)
 
-  pub allowed_shows : v.answer ≡ answers 0 → EachOnce (event r) (events v)
+  pub allowed_shows : rule_of v ≡ 0 → EachOnce (event r) (events v)
   unfolding base
   allowed_shows e =
-      let (f, g) = recording_allowed nodes r within M in
-      all_shown M (base nodes r) steps closing v w (g (allowed_means.0 e)) (term_inside r within M.order) (no_event_above r within)
+      all_shown M (base nodes r) steps closing v w (sym w.answer ∙ e) (term_inside r within M.order) (no_event_above r within)

@@ -1,5 +1,5 @@
 -- What a verdict says and shows (01, "What is shown"), for any model.
-use Rattle.std.specs.Prelude.{◌≡◌, true, List, [], ◌∷◌, ℕ, ◌<◌, ◌≤◌, length, take, Option, IfSome, IfNone, Result, Err, IfOk, IfErr}
+use Rattle.std.specs.Prelude.{◌≡◌, true, [], ◌∷◌, ℕ, ◌<◌, ◌≤◌, length, take, Option, IfSome, IfNone, Result, Err, IfOk, IfErr}
 use Rattle.relation.specs.Rel.{Rel, some, least, nodes}
 use Rattle.relation.specs.Ring.{ShortestRing, closed}
 use Rattle.relation.specs.Order.{order}

@@ -33,10 +33,7 @@ pub fn unordered(base: &base::Base) -> Option<Pair>
     ensures { FirstPair (models.unordered nodes (base_of base.now)) result }
 {
     // Two writes need no order where they are one, or where co orders them.
-    let settled = grid::optional(
-        grid::or(base.co, grid::inverse(base.co)),
-        base.writes,
-    );
+    let settled = grid::optional(grid::or(base.co, grid::inverse(base.co)), base.writes);
     let mut found = None;
     'pairs: for first in row::members(base.writes) {
         let peers = row::and(base.writes, base.loc[first]);

@@ -10,9 +10,8 @@ ghost use Rattle.models.specs.Rules.{Model};
 ghost use Rattle.verdict.specs.Base.{base_of};
 ghost use Rattle.verdict.specs.Shown.{Hold, Tried, Around, Shown};
 
-use crate::base;
 use crate::rules::{Pair, broken_pairs, first_pair, unordered, unread};
-use crate::{Broken, Rule, Verdict};
+use crate::{Broken, Rule, Verdict, base};
 use relation::grid::Grid;
 use relation::row::Row;
 use relation::{Events, grid, order, ring, row};
@@ -79,7 +78,8 @@ pub fn atomicity(rmw: Grid, fre: Grid, coe: Grid) -> Result<(), Broken>
     ensures { (M : Model) (B : Base) (s c : Rel) → Hold 3 M B → edge rmw ≡ B.rmw → edge fre ≡ eval nodes frₑ B
         → edge «coe» ≡ eval nodes coₑ B → Tried 4 s c M B result }
 {
-    if let Some(pair) = first_pair(broken_pairs(rmw, fre, coe)) {
+    let pairs = broken_pairs(rmw, fre, coe);
+    if let Some(pair) = first_pair(pairs) {
         return Err(broken_pair(Rule::Atomicity, pair));
     }
     Ok(())
@@ -90,7 +90,8 @@ pub fn acyclicity(before: Grid, all: Row) -> Verdict
     ensures { (M : Model) (B : Base) (s c : Rel) → Hold 4 M B → edge before ≡ eval nodes M.order B → bit all ≡ B.E
         → Shown s c M B result }
 {
-    if row::is_empty(grid::diagonal(grid::closure(before))) {
+    let reached = grid::closure(before);
+    if row::is_empty(grid::diagonal(reached)) {
         return Ok(order::order(before, all));
     }
     Err(broken_ring(Rule::Acyclicity, before, before))

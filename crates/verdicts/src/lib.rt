@@ -19,7 +19,7 @@ use lines::Model;
 use recording::causes;
 use refusal::Refusal;
 use verdict::base::Base;
-use verdict::{Broken, Rule, Verdict};
+use verdict::{Rule, Verdict};
 
 // The side of the files that a model judges.
 fn side(model: Model) -> bool
@@ -94,13 +94,12 @@ pub fn explained(model: Model, file: &[u8], verdict: &Verdict) -> Steps
     requires { LoadsAs (side_for model) file.now × OnRecording (model_for model) (JudgedFor model) (decode file.now) verdict.now }
     ensures { Explained (clauses_of (clauses_for model) (rule_of verdict.now)) (decode file.now) (ring verdict.now) result.items }
 {
-    let Err(Broken { rule, .. }) = verdict else {
-        return Steps::new();
-    };
-    let base = execution::base(file);
-    match rule {
-        Rule::Coherence => coherence_steps(model, &base, verdict),
-        Rule::Acyclicity => order_steps(model, &base, verdict),
-        _ => Steps::new(),
+    match verdict {
+        Ok(_) => Steps::new(),
+        Err(broken) => match broken.rule {
+            Rule::Coherence => coherence_steps(model, &execution::base(file), verdict),
+            Rule::Acyclicity => order_steps(model, &execution::base(file), verdict),
+            Rule::Reads | Rule::Writes | Rule::Atomicity => Steps::new(),
+        },
     }
 }

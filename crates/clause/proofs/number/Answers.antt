@@ -1,25 +1,18 @@
-use Rattle.std.proofs.Common.{rules, ◌≡◌, List, map, ◌<◌, ◌≤◌, length, ℕ, ◌+◌, ◌-◌, ◌*◌, ◌/◌, ◌%◌, Bool, true, false, nat_eq, nat_lt, [], ◌∷◌, ◌++◌, slice_index_or, slice_set, bit_and, bit_or, Fits, w8, w32, w64, Bor, MutBor}
-use Rattle.relation.specs.Bits.{edge}
-use Rattle.relation.specs.Ring.{after}
-use Rattle.models.specs.Graph.{Base}
-use Rattle.models.specs.Armv8.{sc_per_loc_clauses}
-use Rattle.models.specs.Clause.{Clause, number_from, unions}
-use Rattle.verdict.specs.Base.{base_of}
-use Rattle.clause.specs.Steps.{ring, steps_of, Held, StepsBy}
+-- `number` meets its contract: n of the clauses are passed.
+use mathlib.Core.Path.{refl, sym, ◌∙◌}
+use Rattle.clause.proofs.StepLaws.{passed_more, passed_here, passed_all}
 use Rattle.clause.proofs.number.Goals as goal
 
--- src/lib.rt:47:5
 pub loop-n-init : goal.loop-n-init
-loop-n-init c = ?
+loop-n-init c = refl
 
--- src/lib.rt:49:13
 pub returns-then-holds : goal.returns-then-holds
-returns-then-holds c = ?
+returns-then-holds c =
+    passed_here _ _ _ _ c.loop-n-test.true c.loop-n.invariant (sym c.holds.ensures ∙ c.if-holds.true)
 
--- src/lib.rt:47:5
 pub loop-n-preserved : goal.loop-n-preserved
-loop-n-preserved c = ?
+loop-n-preserved c =
+    passed_more _ _ _ _ c.loop-n-test.true c.loop-n.invariant (sym c.holds.ensures ∙ c.if-holds.false)
 
--- src/lib.rt:43:1
 pub returns : goal.returns
-returns c = ?
+returns c = passed_all _ _ _ _ c.loop-n-test.false c.loop-n.invariant

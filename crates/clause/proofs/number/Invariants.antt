@@ -1,12 +1,6 @@
-use Rattle.std.proofs.Common.{◌≡◌, List, map, ◌<◌, ◌≤◌, length, ℕ, ◌+◌, ◌-◌, ◌*◌}
-use Rattle.relation.specs.Bits.{edge}
-use Rattle.relation.specs.Ring.{after}
-use Rattle.models.specs.Graph.{Base}
-use Rattle.models.specs.Armv8.{sc_per_loc_clauses}
-use Rattle.models.specs.Clause.{Clause, number_from, unions}
-use Rattle.verdict.specs.Base.{base_of}
-use Rattle.clause.specs.Steps.{ring, steps_of, Held, StepsBy}
+-- `number` meets its contract: n of the clauses are passed.
+use Rattle.clause.proofs.StepLaws.{Passed}
 use Rattle.clause.proofs.number.Given as goal
 
 abbrev pub invariant-loop-n : goal.invariant-loop-n
-invariant-loop-n l = ?
+invariant-loop-n l = Passed l.clauses l.a l.b l.n

@@ -1,13 +1,10 @@
-use Rattle.std.proofs.Common.{rules, ◌≡◌, List, map, ◌<◌, ◌≤◌, length, ℕ, ◌+◌, ◌-◌, ◌*◌, ◌/◌, ◌%◌, Bool, true, false, nat_eq, nat_lt, [], ◌∷◌, ◌++◌, slice_index_or, slice_set, bit_and, bit_or, Fits, w8, w32, w64, Bor, MutBor}
-use Rattle.relation.specs.Bits.{edge}
-use Rattle.relation.specs.Ring.{after}
-use Rattle.models.specs.Graph.{Base}
-use Rattle.models.specs.Armv8.{sc_per_loc_clauses}
-use Rattle.models.specs.Clause.{Clause, number_from, unions}
+-- `per_location` meets its contract: its clauses, call by call.
+use Rattle.models.specs.Term.{eval}
 use Rattle.verdict.specs.Base.{base_of}
-use Rattle.clause.specs.Steps.{ring, steps_of, Held, StepsBy}
+use Rattle.verdict.proofs.TermLaws.{terms}
+use Rattle.clause.proofs.StepLaws.{held_each, arrays}
 use Rattle.clause.proofs.per_location.Goals as goal
 
--- src/lib.rt:89:1
 pub returns : goal.returns
-returns c = ?
+unfolding eval base_of
+returns c = held_each (search (arrays, terms) depth 18)

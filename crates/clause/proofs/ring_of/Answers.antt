@@ -1,17 +1,17 @@
-use Rattle.std.proofs.Common.{rules, ◌≡◌, List, map, ◌<◌, ◌≤◌, length, ℕ, ◌+◌, ◌-◌, ◌*◌, ◌/◌, ◌%◌, Bool, true, false, nat_eq, nat_lt, [], ◌∷◌, ◌++◌, slice_index_or, slice_set, bit_and, bit_or, Fits, w8, w32, w64, Bor, MutBor}
-use Rattle.relation.specs.Bits.{edge}
-use Rattle.relation.specs.Ring.{after}
-use Rattle.models.specs.Graph.{Base}
-use Rattle.models.specs.Armv8.{sc_per_loc_clauses}
-use Rattle.models.specs.Clause.{Clause, number_from, unions}
-use Rattle.verdict.specs.Base.{base_of}
-use Rattle.clause.specs.Steps.{ring, steps_of, Held, StepsBy}
+-- `ring_of` meets its contract, by the rule.
+use mathlib.Core.Path.{sym, ap, ◌∙◌}
+use native.Mathlib.Omega.{arith}
+use Rattle.clause.specs.Steps.{ring}
+use Rattle.clause.proofs.StepLaws.{ring_shown, no_ring_shown}
 use Rattle.clause.proofs.ring_of.Goals as goal
 
--- src/lib.rt:70:1
-pub returns-in-Err-Coherence-clause-ring : goal.returns-in-Err-Coherence-clause-ring
-returns-in-Err-Coherence-clause-ring c = ?
-
--- src/lib.rt:70:1
 pub returns-in_default-clause-ring : goal.returns-in_default-clause-ring
-returns-in_default-clause-ring c = ?
+unfolding ring
+returns-in_default-clause-ring c = sym (ap ring c.in_default.is)
+
+pub returns-in-Coherence-clause-ring : goal.returns-in-Coherence-clause-ring
+returns-in-Coherence-clause-ring c = c.as_slice.ensures.value ∙ sym (ap ring c.in-Err.is ∙ ring_shown c.in-Err.broken c.in-Coherence.is)
+
+pub returns-in-Reads : goal.returns-in-Reads
+returns-in-Reads c =
+    record { ring = sym (ap ring c.in-Err.is ∙ no_ring_shown c.in-Err.broken c.in-Reads.is); bounded = omega arith }

@@ -1,25 +1,28 @@
-use Rattle.std.proofs.Common.{rules, ◌≡◌, List, map, ◌<◌, ◌≤◌, length, ℕ, ◌+◌, ◌-◌, ◌*◌, ◌/◌, ◌%◌, Bool, true, false, nat_eq, nat_lt, [], ◌∷◌, ◌++◌, slice_index_or, slice_set, bit_and, bit_or, Fits, w8, w32, w64, Bor, MutBor}
-use Rattle.relation.specs.Bits.{edge}
+-- `steps` meets its contract: k of the steps are made.
+use mathlib.Core.Path.{◌≡◌, ap, ◌∙◌}
+use native.Mathlib.Omega.{arith}
+use lib.ListN.{length}
 use Rattle.relation.specs.Ring.{after}
-use Rattle.models.specs.Graph.{Base}
-use Rattle.models.specs.Armv8.{sc_per_loc_clauses}
-use Rattle.models.specs.Clause.{Clause, number_from, unions}
-use Rattle.verdict.specs.Base.{base_of}
-use Rattle.clause.specs.Steps.{ring, steps_of, Held, StepsBy}
+use Rattle.clause.specs.Steps.{steps_to}
+use Rattle.clause.proofs.StepLaws.{after_next, after_last, made_more}
+use borrow.Author.Rules.{rules}
+use Rattle.clause.proofs.steps.Goals.{then-k-ring, else-k-ring}
 use Rattle.clause.proofs.steps.Goals as goal
 
--- src/lib.rt:61:5
 pub loop-k-init : goal.loop-k-init
-loop-k-init c = ?
+unfolding steps_to
+loop-k-init c = (c.new-steps.ensures, ap length c.new-steps.ensures)
 
--- src/lib.rt:64:9
 pub push-requires : goal.push-requires
-push-requires c = ?
+push-requires c = (search rules, omega (arith, c.loop-k.invariant.1, c.loop-k-test.true, c.requires.0))
 
--- src/lib.rt:61:5
 pub loop-k-preserved : goal.loop-k-preserved
-loop-k-preserved c = ?
+loop-k-preserved c =
+    let b : c.if-k-ring.b ≡ after c.args.ring.now c.loop-k.k = elim c.if-k-ring.branch [
+      | then-k-ring w ↦ w.b-is ∙ after_next _ _ w.if-k-ring.true
+      | else-k-ring w ↦ w.b-is ∙ after_last _ _ w.if-k-ring.false
+    ] in
+    (made_more _ _ _ c.loop-k.invariant.0 b c.number.ensures c.push.ensures.items, omega (arith, c.push.ensures.len, c.loop-k.invariant.1))
 
--- src/lib.rt:56:1
 pub returns : goal.returns
-returns c = ?
+returns c = c.loop-k.invariant.0 ∙ ap (steps_to _ c.args.ring.now) (omega arith)

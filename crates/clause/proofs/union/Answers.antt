@@ -1,21 +1,12 @@
-use Rattle.std.proofs.Common.{rules, ◌≡◌, List, map, ◌<◌, ◌≤◌, length, ℕ, ◌+◌, ◌-◌, ◌*◌, ◌/◌, ◌%◌, Bool, true, false, nat_eq, nat_lt, [], ◌∷◌, ◌++◌, slice_index_or, slice_set, bit_and, bit_or, Fits, w8, w32, w64, Bor, MutBor}
-use Rattle.relation.specs.Bits.{edge}
-use Rattle.relation.specs.Ring.{after}
-use Rattle.models.specs.Graph.{Base}
-use Rattle.models.specs.Armv8.{sc_per_loc_clauses}
-use Rattle.models.specs.Clause.{Clause, number_from, unions}
-use Rattle.verdict.specs.Base.{base_of}
-use Rattle.clause.specs.Steps.{ring, steps_of, Held, StepsBy}
+-- `union` meets its contract: the clauses before the index are joined.
+use Rattle.clause.proofs.StepLaws.{joined_none, joined_more, joined_all}
 use Rattle.clause.proofs.union.Goals as goal
 
--- src/lib.rt:28:5
 pub loop-clause-init : goal.loop-clause-init
-loop-clause-init c = ?
+loop-clause-init c = joined_none _ _ c.empty-all.ensures
 
--- src/lib.rt:28:5
 pub loop-clause-preserved : goal.loop-clause-preserved
-loop-clause-preserved c = ?
+loop-clause-preserved c = joined_more _ _ _ _ c.loop-clause-test.true c.loop-clause.invariant c.or-more.ensures
 
--- src/lib.rt:24:1
 pub returns : goal.returns
-returns c = ?
+returns c = joined_all _ _ _ c.loop-clause-test.false c.loop-clause.invariant

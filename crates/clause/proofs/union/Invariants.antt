@@ -1,12 +1,7 @@
-use Rattle.std.proofs.Common.{◌≡◌, List, map, ◌<◌, ◌≤◌, length, ℕ, ◌+◌, ◌-◌, ◌*◌}
+-- `union` meets its contract: the clauses before the index are joined.
 use Rattle.relation.specs.Bits.{edge}
-use Rattle.relation.specs.Ring.{after}
-use Rattle.models.specs.Graph.{Base}
-use Rattle.models.specs.Armv8.{sc_per_loc_clauses}
-use Rattle.models.specs.Clause.{Clause, number_from, unions}
-use Rattle.verdict.specs.Base.{base_of}
-use Rattle.clause.specs.Steps.{ring, steps_of, Held, StepsBy}
+use Rattle.clause.proofs.StepLaws.{Joined}
 use Rattle.clause.proofs.union.Given as goal
 
 abbrev pub invariant-loop-clause : goal.invariant-loop-clause
-invariant-loop-clause l = ?
+invariant-loop-clause l = Joined l.clauses l.clause-index (edge l.all)

@@ -1,69 +1,110 @@
-use Rattle.std.proofs.Common.{rules, ◌≡◌, ℕ, ◌+◌, ◌-◌, ◌*◌, ◌<◌, ◌≤◌, length, ◌/◌, ◌%◌, Bool, true, false, nat_eq, nat_lt, List, [], ◌∷◌, ◌++◌, slice_index_or, slice_set, bit_and, bit_or, Fits, w8, w32, w64, Bor, MutBor}
-use Rattle.relation.specs.Bits.{bit, edge}
-use Rattle.relation.specs.Rel.{nodes}
-use Rattle.models.specs.Recording.{event}
+-- `base` meets its contract, field by field.
+use mathlib.Core.Path.{refl, ap₂, ◌∙◌}
+use native.Mathlib.Omega.{arith}
+use Rattle.relation.specs.Rel.{union}
 use Rattle.models.specs.Graph.{base}
+use Rattle.models.specs.Recording.{event, acquire_fence, release_fence, R, W, F, Racq, Rex, Wrel, Wstrong, Facq, Frel, Fsc, Fld, Fsy, Fisb}
 use Rattle.layout.specs.Decode.{decode}
-use Rattle.recording.specs.Causes.{refusal}
-use Rattle.execution.specs.Arrays.{SetsOf, RelationsOf}
+use Rattle.recording.proofs.Accepted.{sized, threads_sound_lem}
+use Rattle.recording.proofs.Loaded.{loaded_readable, loaded_located}
+use Rattle.reading.proofs.SortLaws.{all_recorded, class_recorded, sorted_class, sorted_writes, sorted_mode, sorted_flag, union_three}
+use Rattle.execution.proofs.BaseOf.{links_of}
+use borrow.Author.Rules.{rules}
 use Rattle.execution.proofs.base.Goals as goal
 
--- src/lib.rt:42:9
-pub initial-initial-requires : goal.initial-initial-requires
-initial-initial-requires c = ?
-
--- src/lib.rt:43:9
-pub recorded-recorded-requires : goal.recorded-recorded-requires
-recorded-recorded-requires c = ?
-
--- src/lib.rt:44:19
-pub sorted-classes-requires : goal.sorted-classes-requires
-sorted-classes-requires c = ?
-
--- src/lib.rt:45:17
 pub sorted-reads-requires : goal.sorted-reads-requires
-sorted-reads-requires c = ?
+sorted-reads-requires c =
+    (sized _ c.requires, search rules, class_recorded _ _ c.recorded-recorded.ensures _ c.sorted-classes.ensures 1 (search rules))
 
--- src/lib.rt:46:21
 pub sorted-exclusive-requires : goal.sorted-exclusive-requires
-sorted-exclusive-requires c = ?
+sorted-exclusive-requires c =
+    (sized _ c.requires, search rules, class_recorded _ _ c.recorded-recorded.ensures _ c.sorted-classes.ensures 1 (search rules))
 
--- src/lib.rt:47:18
 pub sorted-writes-requires : goal.sorted-writes-requires
-sorted-writes-requires c = ?
+sorted-writes-requires c =
+    (sized _ c.requires, search rules, class_recorded _ _ c.recorded-recorded.ensures _ c.sorted-classes.ensures 2 (search rules))
 
--- src/lib.rt:48:18
 pub sorted-strong-requires : goal.sorted-strong-requires
-sorted-strong-requires c = ?
+sorted-strong-requires c =
+    (sized _ c.requires, search rules, class_recorded _ _ c.recorded-recorded.ensures _ c.sorted-classes.ensures 2 (search rules))
 
--- src/lib.rt:49:18
 pub sorted-fences-requires : goal.sorted-fences-requires
-sorted-fences-requires c = ?
+sorted-fences-requires c =
+    (sized _ c.requires, search rules, class_recorded _ _ c.recorded-recorded.ensures _ c.sorted-classes.ensures 3 (search rules))
 
--- src/lib.rt:51:9
-pub same_location-loc-requires : goal.same_location-loc-requires
-same_location-loc-requires c = ?
+pub initial-initial-requires : goal.initial-initial-requires
+initial-initial-requires c = search (rules, sized)
 
--- src/lib.rt:52:9
-pub program_order-po-requires : goal.program_order-po-requires
-program_order-po-requires c = ?
+pub recorded-recorded-requires : goal.recorded-recorded-requires
+recorded-recorded-requires c = search (rules, sized)
 
--- src/lib.rt:53:16
-pub rows_by_type-rows-requires : goal.rows_by_type-rows-requires
-rows_by_type-rows-requires c = ?
+pub sorted-classes-requires : goal.sorted-classes-requires
+sorted-classes-requires c = search (rules, sized, all_recorded)
 
--- src/lib.rt:73:13
 pub coherence-requires : goal.coherence-requires
-coherence-requires c = ?
+coherence-requires c = (
+  sized _ c.requires,
+  links_of c.rows_by_type-rows.ensures 2 (omega arith) (omega arith) c.inverse-2.ensures,
+  c.same_location-loc.ensures,
+)
 
--- src/lib.rt:77:15
 pub control-requires : goal.control-requires
-control-requires c = ?
+control-requires c =
+    (c.requires, c.program_order-po.ensures, links_of c.rows_by_type-rows.ensures 6 (omega arith) (omega arith) c.inverse-6.ensures)
 
--- src/lib.rt:37:1
+pub same_location-loc-requires : goal.same_location-loc-requires
+same_location-loc-requires c = search (rules, sized, loaded_located)
+
+pub program_order-po-requires : goal.program_order-po-requires
+program_order-po-requires c = search (rules, sized, threads_sound_lem)
+
+pub rows_by_type-rows-requires : goal.rows_by_type-rows-requires
+rows_by_type-rows-requires c = search (rules, loaded_readable)
+
 pub returns-clause-sets : goal.returns-clause-sets
-returns-clause-sets c = ?
+unfolding event decode union acquire_fence release_fence
+returns-clause-sets c =
+    let recorded = c.recorded-recorded.ensures in
+    let initial = c.initial-initial.ensures in
+    let fits = sized _ c.requires in
+    let sorted = c.sorted-classes.ensures in
+    let class = sorted_class _ _ recorded _ sorted fits in
+    let mode = sorted_mode _ _ recorded _ sorted fits in
+    let flag = sorted_flag _ _ recorded _ sorted fits in
+    let fence = mode 3 (search rules) _ c.sorted-fences.ensures in
+    let two = c.or-both.ensures ∙ ap₂ union (fence 3 (search rules) (search rules)) (fence 4 (search rules) (search rules)) in
+    record {
+      events = c.or.ensures ∙ ap₂ union initial recorded;
+      initial = initial;
+      named = elim [
+        | R ↦ class 1 (search rules) refl
+        | W ↦ sorted_writes _ _ recorded _ sorted fits _ _ initial c.or-2.ensures
+        | F ↦ class 3 (search rules) refl
+        | Racq ↦ mode 1 (search rules) _ c.sorted-reads.ensures 1 (search rules) (search rules)
+        | Rex ↦ flag 1 (search rules) _ c.sorted-exclusive.ensures
+        | Wrel ↦ mode 2 (search rules) _ c.sorted-writes.ensures 2 (search rules) (search rules)
+        | Wstrong ↦ flag 2 (search rules) _ c.sorted-strong.ensures
+        | Facq ↦ union_three _ _ _ _ _ _ c.or-3.ensures (fence 1 (search rules) (search rules)) two
+        | Frel ↦ union_three _ _ _ _ _ _ c.or-4.ensures (fence 2 (search rules) (search rules)) two
+        | Fsc ↦ fence 4 (search rules) (search rules)
+        | Fld ↦ fence 5 (search rules) (search rules)
+        | Fsy ↦ fence 6 (search rules) (search rules)
+        | Fisb ↦ fence 7 (search rules) (search rules)
+      ];
+    }
 
--- src/lib.rt:37:1
 pub returns-clause-relations : goal.returns-clause-relations
-returns-clause-relations c = ?
+unfolding base
+returns-clause-relations c =
+    let rows = c.rows_by_type-rows.ensures in
+    record {
+      loc = c.same_location-loc.ensures;
+      po = c.program_order-po.ensures;
+      rf = links_of rows 1 (omega arith) (omega arith) c.inverse.ensures;
+      co = c.coherence.ensures;
+      rmw = links_of rows 3 (omega arith) (omega arith) c.inverse-3.ensures;
+      «data» = links_of rows 4 (omega arith) (omega arith) c.inverse-4.ensures;
+      addr = links_of rows 5 (omega arith) (omega arith) c.inverse-5.ensures;
+      ctrl = c.control.ensures;
+      casdep = links_of rows 7 (omega arith) (omega arith) c.inverse-7.ensures;
+    }

@@ -1,11 +1,10 @@
-use Rattle.std.proofs.Common.{rules, ◌≡◌, ◌+◌, ◌≤◌, length, ℕ, ◌-◌, ◌*◌, ◌<◌, ◌/◌, ◌%◌, Bool, true, false, nat_eq, nat_lt, List, [], ◌∷◌, ◌++◌, slice_index_or, slice_set, bit_and, bit_or, Fits, w8, w32, w64, Bor, MutBor}
-use Rattle.output.specs.Output.{placed, Fills}
+-- `fill` meets its contract: refused with 12 before anything is written, or written.
+use mathlib.Core.Path.{refl}
+use Rattle.output.proofs.FillLaws.{fills_short, fills_written}
 use Rattle.output.proofs.fill.Goals as goal
 
--- src/lib.rt:24:9
 pub returns-then-out-bytes : goal.returns-then-out-bytes
-returns-then-out-bytes c = ?
+returns-then-out-bytes c = fills_short _ _ _ refl c.if-out-bytes.true
 
--- src/lib.rt:20:1
 pub returns : goal.returns
-returns c = ?
+returns c = fills_written _ _ _ refl c.if-out-bytes.false _ refl _ c.put.ensures

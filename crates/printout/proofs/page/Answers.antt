@@ -1,13 +1,10 @@
 -- `page` meets its contract: refused as loading says, or written.
-use mathlib.Core.Path.{sym, ap, ◌∙◌}
-use Rattle.recording.specs.Load.{number_of}
-use Rattle.recording.proofs.CauseLaws.{load_number}
-use Rattle.output.proofs.FillLaws.{fills_refused}
+use mathlib.Core.Path.{sym}
+use Rattle.output.proofs.FillLaws.{fills_raised}
 use Rattle.printout.proofs.page.Goals as goal
 
-pub returns-then-k-ne0 : goal.returns-then-k-ne0
-returns-then-k-ne0 c =
-    fills_refused _ _ _ _ (c.number-k.ensures ∙ ap number_of c.load.ensures ∙ load_number _) c.if-k-ne0.true
+pub returns-in_err-load : goal.returns-in_err-load
+returns-in_err-load c = fills_raised _ _ _ _ _ c.from_residual.ensures.1 c.in_err-load.ensures.refused
 
 pub written-requires : goal.written-requires
-written-requires c = sym (c.number-k.ensures ∙ ap number_of c.load.ensures ∙ load_number _) ∙ c.if-k-ne0.false
+written-requires c = sym c.in_ok-load.ensures.refused

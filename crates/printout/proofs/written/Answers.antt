@@ -6,8 +6,16 @@ use Rattle.printout.proofs.written.Goals as goal
 pub returns-then-out-length : goal.returns-then-out-length
 returns-then-out-length c = page_short _ _ _ c.requires _ c.longest-n.ensures.0 c.if-out-length.true
 
-pub line-line-requires : goal.line-line-requires
-line-line-requires c = let pre = c.requires in (sized _ pre, threads_sound_lem _ pre)
+pub line-events-requires : goal.line-events-requires
+line-events-requires c = let pre = c.requires in (sized _ pre, threads_sound_lem _ pre)
+
+pub lines-requires : goal.lines-requires
+lines-requires c = (
+  c.requires,
+  record { line = rw c.as_slice.ensures.value c.line-events.ensures; begins = c.starts-starts.ensures },
+  c.longest-n.ensures.1,
+  c.if-out-length.false,
+)
 
 pub returns : goal.returns
 returns c =

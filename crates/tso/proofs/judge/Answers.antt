@@ -1,8 +1,17 @@
-use Rattle.std.proofs.Common.{rules, ◌≡◌, ℕ, ◌+◌, ◌-◌, ◌*◌, ◌<◌, ◌≤◌, length, ◌/◌, ◌%◌, Bool, true, false, nat_eq, nat_lt, List, [], ◌∷◌, ◌++◌, slice_index_or, slice_set, bit_and, bit_or, Fits, w8, w32, w64, Bor, MutBor}
+-- `judge` meets its contract: its relations are those of the model, rule by rule.
+use mathlib.Core.Path.{refl}
+use Rattle.relation.specs.Rel.{nodes}
+use Rattle.models.specs.Graph.{Base}
+use Rattle.models.specs.Tso.{tso, tso_clauses}
+use Rattle.models.proofs.ClauseLaws.{tso_opened}
 use Rattle.verdict.specs.Base.{base_of}
-use Rattle.tso.specs.Judged.{Judged}
+use Rattle.clause.proofs.StepLaws.{held_union}
 use Rattle.tso.proofs.judge.Goals as goal
 
--- src/lib.rt:15:1
+-- Rules 1 to 4 hold, and rule 5 is of tso.
 pub returns : goal.returns
-returns c = ?
+unfolding base_of
+returns c =
+    let B : Base = base_of c.args.b.now in
+    c.acyclicity.ensures _ B _ _ (c.in_ok-tried.ensures c.fr-fr.ensures tso).holds
+    (held_union tso_clauses B _ (c.clauses.ensures c.fr-fr.ensures) tso (tso_opened nodes B) _ c.union-tso.ensures) refl

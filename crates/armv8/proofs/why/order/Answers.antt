@@ -1,9 +1,10 @@
-use Rattle.std.proofs.Common.{rules, ◌≡◌, ℕ, ◌+◌, ◌-◌, ◌*◌, ◌<◌, ◌≤◌, length, ◌/◌, ◌%◌, Bool, true, false, nat_eq, nat_lt, List, [], ◌∷◌, ◌++◌, slice_index_or, slice_set, bit_and, bit_or, Fits, w8, w32, w64, Bor, MutBor}
-use Rattle.models.specs.Why.{armv8_rings}
+-- `why::order` meets its contract: the clauses of ob, by fre.
+use mathlib.Core.Path.{refl}
+use Rattle.models.specs.Term.{eval, frₑ}
 use Rattle.verdict.specs.Base.{base_of}
-use Rattle.clause.specs.Steps.{Held}
+use Rattle.verdict.proofs.TermLaws.{holds, given, is_minus}
 use Rattle.armv8.proofs.why.order.Goals as goal
 
--- src/why.rt:13:1
 pub returns : goal.returns
-returns c = ?
+unfolding eval base_of
+returns c = c.clauses.ensures (holds (base_of c.args.b.now) frₑ (is_minus c.minus.ensures (given c.fr.ensures) (given refl)))

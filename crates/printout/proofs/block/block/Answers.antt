@@ -9,34 +9,30 @@ use Rattle.printout.proofs.block.block.Goals as goal
 pub class_of-requires : goal.class_of-requires
 class_of-requires c = sized _ c.requires.0
 
-pub letter-requires : goal.letter-requires
-letter-requires c =
-    let pre = c.requires in
-    omega (arith, c.class_of.ensures.0, (digits_of _ _ pre.0 pre.1 pre.2).few_classes)
-
 pub mode_of-requires : goal.mode_of-requires
 mode_of-requires c = sized _ c.requires.0
 
-pub overflow_add-result : goal.overflow_add-result
-overflow_add-result c =
-    let pre = c.requires in
-    omega (arith, c.mode_of.ensures.0, (digits_of _ _ pre.0 pre.1 pre.2).few_modes)
-
 pub flag_of-requires : goal.flag_of-requires
 flag_of-requires c = sized _ c.requires.0
-
-pub overflow_add-result-2 : goal.overflow_add-result-2
-overflow_add-result-2 c =
-    let pre = c.requires in
-    omega (arith, c.flag_of.ensures.0, (digits_of _ _ pre.0 pre.1 pre.2).few_flags)
 
 pub star-requires : goal.star-requires
 star-requires c =
     let pre = c.requires in
     omega (arith, pre.2, (sized _ pre.0).most_events)
 
+pub overflow_add-block : goal.overflow_add-block
+overflow_add-block c =
+    let pre = c.requires in
+    omega (arith, c.mode_of.ensures.0, (digits_of _ _ pre.0 pre.1 pre.2).few_modes)
+
+pub overflow_add-block-2 : goal.overflow_add-block-2
+overflow_add-block-2 c =
+    let pre = c.requires in
+    omega (arith, c.flag_of.ensures.0, (digits_of _ _ pre.0 pre.1 pre.2).few_flags)
+
 pub returns : goal.returns
 returns c =
     let pre = c.requires in
-    λ ring w. block_is _ _ ring (omega (arith, pre.2, (sized _ pre.0).most_events)) c.aligned-number.ensures c.place-place.ensures
+    λ ring w. block_is _ _ ring (omega (arith, pre.2, (sized _ pre.0).most_events)) c.aligned-number.ensures
+    c.copy_from_slice-2.ensures.after (c.copy_from_slice.ensures.after ∙ c.place-place.ensures)
     (c.letter.ensures ∙ ap letter c.class_of.ensures.0) c.mode_of.ensures.0 c.flag_of.ensures.0 (c.star.ensures ring w)

@@ -8,19 +8,18 @@ use borrow.Author.Rules.{rules}
 use Rattle.printout.proofs.write.line.Goals as goal
 
 pub loop-t-init : goal.loop-t-init
-loop-t-init c = let pre = c.requires in (pre.0, pre.1, pre.2, blocks_none _ _ _ _ pre.3)
+loop-t-init c = blocks_none _ _ _ _ c.requires.3
 
 pub loop-t-preserved : goal.loop-t-preserved
 loop-t-preserved c =
-    let inv = c.loop-t.invariant in
-    let size : length c.block_at-bytes.result ≡ 20 = search rules in
-    (inv.0, inv.1, inv.2, blocks_written _ _ _ inv.0 inv.3 c.loop-t-test.true size c.block_at-bytes.ensures c.put.ensures)
+    let size : length c.block_at-block.result ≡ 20 = search rules in
+    blocks_written _ _ _ c.requires.0 c.loop-t.invariant c.loop-t-test.true size c.block_at-block.ensures c.put.ensures
 
 pub shape_of-out : goal.shape_of-out
 shape_of-out c =
-    let inv = c.loop-t.invariant.3 in
+    let inv = c.loop-t.invariant in
     ap length c.put-2.ensures ∙ length_placed _ _ _ (omega (arith, inv.room, inv.long)) ∙ inv.long
 
 pub returns : goal.returns
 returns c =
-    let inv = c.loop-t.invariant in record { long = ap length c.put-2.ensures ∙ length_placed _ _ _ (omega (arith, inv.3.room, inv.3.long)) ∙ inv.3.long; line = line_written _ _ _ inv.0 inv.3 c.loop-t-test.false c.put-2.ensures }
+    let inv = c.loop-t.invariant in record { long = ap length c.put-2.ensures ∙ length_placed _ _ _ (omega (arith, inv.room, inv.long)) ∙ inv.long; line = line_written _ _ _ c.requires.0 inv c.loop-t-test.false c.put-2.ensures }

@@ -1,45 +1,37 @@
-use Rattle.std.proofs.Common.{rules, ◌≡◌, true, not, ◌≤◌, ◌<◌, length, ℕ, ◌+◌, ◌-◌, ◌*◌, ◌/◌, ◌%◌, Bool, false, nat_eq, nat_lt, List, [], ◌∷◌, ◌++◌, slice_index_or, slice_set, bit_and, bit_or, Fits, w8, w32, w64, Bor, MutBor}
-use Rattle.relation.specs.Bits.{edge}
-use Rattle.relation.specs.Rel.{nodes}
-use Rattle.models.specs.Graph.{base}
+-- `causes::link_refusal` may call what it calls: what the causes of the records leave, and that the links are sound.
+use mathlib.Core.Path.{◌≡◌, refl}
+use mathlib.Core.Bool.{true}
+use mathlib.Core.List.{List}
+use Prim.Native.Nat.{ℕ}
+use borrow.Author.Tests.{not-false}
+use Rattle.models.proofs.FirstLaws.{positive, test_of, first_fails}
 use Rattle.models.specs.Rules.{first}
-use Rattle.layout.specs.Layout.{events, threads, Sized}
-use Rattle.layout.specs.Chains.{each}
-use Rattle.layout.specs.Decode.{decode}
-use Rattle.reading.specs.Readable.{Readable, Chained}
-use Rattle.recording.specs.Causes.{too_long, links_sound_at, paired_at, header_over, header_causes, record_causes, link_causes, bad_threads, long_thread, bad_chains, co_ring}
-use Rattle.refusal.specs.Refusal.{number_of}
-use Rattle.recording.specs.Load.{header_of, Loads, cause_for}
+use Rattle.layout.specs.Layout.{Sized}
+use Rattle.layout.specs.Chains.{threads_sound}
+use Rattle.reading.specs.Readable.{Chained}
+use Rattle.recording.specs.Causes.{bad_threads, bad_link, record_causes}
+use Rattle.recording.proofs.CauseLaws.{chained, readable_of}
 use Rattle.recording.proofs.causes.link_refusal.Goals as goal
 
--- src/causes.rt:144:27
+module _ (f : List ℕ) (s : Sized f) (p : first (record_causes f) ≡ 0) where
+  threads_sound_lem : threads_sound f ≡ true
+  unfolding record_causes positive test_of bad_threads
+  threads_sound_lem = not-false _ (first_fails (record_causes f) refl p 6)
+
+  chained-of : Chained f
+  unfolding record_causes positive test_of
+  chained-of = chained f s (first_fails (record_causes f) refl p 7)
+
 pub program_order-requires : goal.program_order-requires
-program_order-requires c = ?
+program_order-requires c = (c.requires.0, threads_sound_lem _ c.requires.0 c.requires.1)
 
--- src/causes.rt:144:9
 pub links_sound-requires : goal.links_sound-requires
-links_sound-requires c = ?
+links_sound-requires c = (chained-of _ c.requires.0 c.requires.1, c.program_order.ensures)
 
--- src/causes.rt:145:9
-pub returns-then-not-links_sound : goal.returns-then-not-links_sound
-returns-then-not-links_sound c = ?
-
--- src/causes.rt:147:8
 pub co_ring-requires : goal.co_ring-requires
-co_ring-requires c = ?
+unfolding bad_link
+co_ring-requires c = readable_of _ (chained-of _ c.requires.0 c.requires.1) cc
 
--- src/causes.rt:148:9
-pub returns-then-co_ring : goal.returns-then-co_ring
-returns-then-co_ring c = ?
-
--- src/causes.rt:150:9
 pub paired-requires : goal.paired-requires
-paired-requires c = ?
-
--- src/causes.rt:151:9
-pub returns-then-not-paired : goal.returns-then-not-paired
-returns-then-not-paired c = ?
-
--- src/causes.rt:140:1
-pub returns : goal.returns
-returns c = ?
+unfolding bad_link
+paired-requires c = readable_of _ (chained-of _ c.requires.0 c.requires.1) cc

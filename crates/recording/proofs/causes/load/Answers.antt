@@ -1,29 +1,30 @@
-use Rattle.std.proofs.Common.{rules, ◌≡◌, true, not, ◌≤◌, ◌<◌, length, ℕ, ◌+◌, ◌-◌, ◌*◌, ◌/◌, ◌%◌, Bool, false, nat_eq, nat_lt, List, [], ◌∷◌, ◌++◌, slice_index_or, slice_set, bit_and, bit_or, Fits, w8, w32, w64, Bor, MutBor}
-use Rattle.relation.specs.Bits.{edge}
-use Rattle.relation.specs.Rel.{nodes}
-use Rattle.models.specs.Graph.{base}
-use Rattle.models.specs.Rules.{first}
-use Rattle.layout.specs.Layout.{events, threads, Sized}
-use Rattle.layout.specs.Chains.{each}
-use Rattle.layout.specs.Decode.{decode}
-use Rattle.reading.specs.Readable.{Readable, Chained}
-use Rattle.recording.specs.Causes.{too_long, links_sound_at, paired_at, header_over, header_causes, record_causes, link_causes, bad_threads, long_thread, bad_chains, co_ring}
-use Rattle.refusal.specs.Refusal.{number_of}
-use Rattle.recording.specs.Load.{header_of, Loads, cause_for}
+-- `causes::load` meets its contract: the causes of one part after the other, and the header where none applies.
+use mathlib.Core.Path.{refl, sym}
+use Rattle.recording.proofs.CauseLaws.{refused_header, refused_records, refused_links, loaded_of, loads_raised, sized_8}
 use Rattle.recording.proofs.causes.load.Goals as goal
 
--- src/causes.rt:210:5
 pub returns-in_err-header_refusal : goal.returns-in_err-header_refusal
-returns-in_err-header_refusal c = ?
+returns-in_err-header_refusal c = loads_raised c.from_residual.ensures.1 (refused_header _ c.in_err-header_refusal.ensures.cause)
 
--- src/causes.rt:211:5
+pub record_refusal-requires : goal.record_refusal-requires
+record_refusal-requires c = c.in_ok-header_refusal.ensures.sized refl
+
 pub returns-in_err-record_refusal : goal.returns-in_err-record_refusal
-returns-in_err-record_refusal c = ?
+returns-in_err-record_refusal c =
+    loads_raised c.from_residual-in_err-record_refusal.ensures.1
+    (refused_records _ c.in_ok-header_refusal.ensures.cause c.in_err-record_refusal.ensures)
 
--- src/causes.rt:212:5
+pub link_refusal-requires : goal.link_refusal-requires
+link_refusal-requires c = (c.in_ok-header_refusal.ensures.sized refl, sym c.in_ok-record_refusal.ensures)
+
 pub returns-in_err-link_refusal : goal.returns-in_err-link_refusal
-returns-in_err-link_refusal c = ?
+returns-in_err-link_refusal c =
+    loads_raised c.from_residual-in_err-link_refusal.ensures.1
+    (refused_links _ c.in_ok-header_refusal.ensures.cause c.in_ok-record_refusal.ensures c.in_err-link_refusal.ensures)
 
--- src/causes.rt:207:1
+pub header-requires : goal.header-requires
+header-requires c = sized_8 _ (c.in_ok-header_refusal.ensures.sized refl)
+
 pub returns : goal.returns
-returns c = ?
+returns c =
+    loaded_of _ c.in_ok-header_refusal.ensures.cause c.in_ok-record_refusal.ensures c.in_ok-link_refusal.ensures c.header.ensures

@@ -1,22 +1,9 @@
--- `legal::events_legal` meets its contract, event by event.
-use mathlib.Core.Bool.{not}
-use mathlib.Core.Path.{ap}
-use Rattle.layout.proofs.EachLaws.{passed_none, passed_more, passed_fails, passed_all}
+-- `legal::events_legal` meets its contract: every event passes the test.
+use Rattle.std.proofs.Common.{rules, tests}
+use Rattle.recording.specs.Causes.{event_legal}
+use Rattle.recording.proofs.AllLaws.{all_numbers}
 use Rattle.recording.proofs.legal.events_legal.Goals as goal
 
-pub loop-e-preserved : goal.loop-e-preserved
-loop-e-preserved c =
-    (c.loop-e.invariant.0, passed_more c.loop-e.invariant.1 c.loop-e-test.true c.event_legal.ensures (ap not c.if-not-event_legal.false))
-
-pub loop-e-init : goal.loop-e-init
-loop-e-init c = (c.requires, passed_none _ c.events-n.ensures.0)
-
-pub event_legal-requires : goal.event_legal-requires
-event_legal-requires c = c.loop-e.invariant.0
-
-pub returns-then-not-event_legal : goal.returns-then-not-event_legal
-returns-then-not-event_legal c =
-    passed_fails c.loop-e.invariant.1 c.loop-e-test.true c.event_legal.ensures (ap not c.if-not-event_legal.true)
-
 pub returns : goal.returns
-returns c = passed_all c.loop-e.invariant.1 c.loop-e-test.false
+returns c =
+    all_numbers (event_legal c.args.file.now) (λ x b q k. search (rules, tests)) c.all.ensures.ran c.new.ensures.start c.new.ensures.end c.new.ensures.exhausted c.events-n.ensures.0

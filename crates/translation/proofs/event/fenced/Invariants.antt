@@ -1,10 +1,11 @@
 -- `event::fenced` meets its contract: no number before the one returned is such a write.
-use Prim.Native.Nat.{◌-◌, ◌≤◌}
-use Rattle.translation.proofs.EventLaws.{Passed}
+use mathlib.Core.Path.{◌≡◌}
+use mathlib.Core.Bool.{false, ◌&&◌}
+use Prim.Native.Nat.{ℕ, ◌<◌}
+use lib.Dec.{eqb}
+use Rattle.translation.specs.Contents.{contents}
+use Rattle.translation.specs.Translate.{strong, inserted}
 use Rattle.translation.proofs.event.fenced.Given as goal
 
 abbrev pub invariant-loop-w : goal.invariant-loop-w
-invariant-loop-w l = (l.w ≤ 64) × Passed l.file l.e l.w
-
-abbrev pub decreases-loop-w : goal.decreases-loop-w
-decreases-loop-w l = 64 - l.w
+invariant-loop-w l = (v : ℕ) → v < l.w → strong (contents l.file) v && eqb (inserted (contents l.file) v) l.e ≡ false

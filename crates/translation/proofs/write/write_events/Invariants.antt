@@ -1,13 +1,9 @@
 -- `write::write_events` meets its contract, event by event.
-use Prim.Native.Nat.{◌+◌, ◌-◌, ◌≤◌}
+use Prim.Native.Nat.{◌+◌, ◌≤◌}
 use Rattle.translation.specs.Encode.{event_records}
 use Rattle.translation.specs.Translation.{chip}
-use Rattle.translation.specs.Parts.{Ends}
 use Rattle.translation.proofs.WriteLaws.{RecordsWritten}
 use Rattle.translation.proofs.write.write_events.Given as goal
 
 abbrev pub invariant-loop-e : goal.invariant-loop-e
-invariant-loop-e l = (l.e ≤ l.n + 1) × RecordsWritten l.file l.n l.initial.out 8 (event_records (chip l.file)) l.e l.before l.out × Ends l.file l.n l.ends
-
-abbrev pub decreases-loop-e : goal.decreases-loop-e
-decreases-loop-e l = l.n + 1 - l.e
+invariant-loop-e l = (l.e ≤ l.n + 1) × RecordsWritten l.file l.n l.initial.out 8 (event_records (chip l.file)) l.e l.before l.out

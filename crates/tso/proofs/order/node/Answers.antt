@@ -1,13 +1,10 @@
-use Rattle.std.proofs.Common.{rules, ◌≡◌, ℕ, ◌+◌, ◌-◌, ◌*◌, ◌<◌, ◌≤◌, length, ◌/◌, ◌%◌, Bool, true, false, nat_eq, nat_lt, List, [], ◌∷◌, ◌++◌, slice_index_or, slice_set, bit_and, bit_or, Fits, w8, w32, w64, Bor, MutBor}
-use Rattle.relation.specs.Rel.{identity, nodes}
-use Rattle.relation.specs.Bits.{bit, edge}
+-- `order::node` meets its contract: its definition, call by call.
 use Rattle.models.specs.Term.{eval}
-use Rattle.models.specs.Term as term
-use Rattle.models.specs.Tso as tso
+use Rattle.models.specs.Tso.{node}
 use Rattle.verdict.specs.Base.{base_of}
-use Rattle.clause.specs.Steps.{Held}
+use Rattle.verdict.proofs.TermLaws.{holds, terms}
 use Rattle.tso.proofs.order.node.Goals as goal
 
--- src/order.rt:37:1
 pub returns : goal.returns
-returns c = ?
+unfolding eval base_of
+returns c = holds (base_of c.args.b.now) node (search terms depth 9)

@@ -1,13 +1,10 @@
-use Rattle.std.proofs.Common.{rules, ◌≡◌, ℕ, ◌+◌, ◌-◌, ◌*◌, ◌<◌, ◌≤◌, length, ◌/◌, ◌%◌, Bool, true, false, nat_eq, nat_lt, List, [], ◌∷◌, ◌++◌, slice_index_or, slice_set, bit_and, bit_or, Fits, w8, w32, w64, Bor, MutBor}
-use Rattle.relation.specs.Rel.{identity, nodes}
-use Rattle.relation.specs.Bits.{bit, edge}
+-- `order::ppo` meets its contract: its clauses, call by call.
 use Rattle.models.specs.Term.{eval}
-use Rattle.models.specs.Term as term
-use Rattle.models.specs.Tso as tso
 use Rattle.verdict.specs.Base.{base_of}
-use Rattle.clause.specs.Steps.{Held}
+use Rattle.verdict.proofs.TermLaws.{terms}
+use Rattle.clause.proofs.StepLaws.{held_each, arrays}
 use Rattle.tso.proofs.order.ppo.Goals as goal
 
--- src/order.rt:18:1
 pub returns : goal.returns
-returns c = ?
+unfolding eval base_of
+returns c = held_each (search (arrays, terms) depth 12)

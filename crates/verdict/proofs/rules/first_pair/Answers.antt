@@ -1,29 +1,32 @@
-use Rattle.std.proofs.Common.{rules, ◌≡◌, ℕ, ◌+◌, ◌-◌, ◌*◌, ◌<◌, ◌≤◌, length, ◌/◌, ◌%◌, Bool, true, false, nat_eq, nat_lt, List, [], ◌∷◌, ◌++◌, slice_index_or, slice_set, bit_and, bit_or, Fits, w8, w32, w64, Bor, MutBor}
-use Rattle.relation.specs.Rel.{nodes}
-use Rattle.relation.specs.Bits.{bit, edge}
-use Rattle.models.specs.Graph.{Base}
-use Rattle.models.specs.Term.{eval, frₑ, coₑ}
-use Rattle.models.specs.Rules as models
-use Rattle.verdict.specs.Base.{base_of}
+-- `rules::first_pair` meets its contract: the smallest event that the relation leads from, and the smallest that it leads to.
+use mathlib.Core.Path.{sym, subst, ◌∙◌}
+use native.Mathlib.Omega.{arith}
+use Rattle.relation.specs.Bits.{edge}
+use Rattle.relation.proofs.SmallestLaws.{smallest_some}
 use Rattle.verdict.specs.Shown.{FirstPair}
+use Rattle.verdict.proofs.PairLaws.{smallest_source, leads_to, first_pair, no_pair}
 use Rattle.verdict.proofs.rules.first_pair.Goals as goal
 
--- src/rules.rt:65:17
 pub returns-in_err-first : goal.returns-in_err-first
-returns-in_err-first c = ?
+returns-in_err-first c =
+    let none = smallest_source _ c.all.ensures c.inverse.ensures c.image.ensures c.first.ensures in
+    subst (FirstPair (edge c.args.g)) (sym c.from_residual.ensures) (no_pair (sym none ∙ c.in_err-first.was))
 
--- src/rules.rt:66:29
 pub offset_bounds-g-first : goal.offset_bounds-g-first
-offset_bounds-g-first c = ?
+offset_bounds-g-first c =
+    let (_, h) = smallest_some _ _ (sym c.first.ensures ∙ c.in_ok-first.was) in record { fits = omega arith }
 
--- src/rules.rt:66:29
 pub bounds-g-first : goal.bounds-g-first
-bounds-g-first c = ?
+bounds-g-first c = let (_, h) = smallest_some _ _ (sym c.first.ensures ∙ c.in_ok-first.was) in h
 
--- src/rules.rt:66:18
 pub returns-in_err-second : goal.returns-in_err-second
-returns-in_err-second c = ?
+unfolding edge
+returns-in_err-second c =
+    let some = smallest_source _ c.all.ensures c.inverse.ensures c.image.ensures c.first.ensures in
+    absurd (leads_to (edge c.args.g) _ (sym some ∙ c.in_ok-first.was) (sym c.first-2.ensures ∙ c.in_err-second.was))
 
--- src/rules.rt:62:1
 pub returns : goal.returns
-returns c = ?
+unfolding edge
+returns c =
+    let some = smallest_source _ c.all.ensures c.inverse.ensures c.image.ensures c.first.ensures in
+    first_pair (sym some ∙ c.in_ok-first.was) (sym c.first-2.ensures ∙ c.in_ok-second.was)

@@ -1,18 +1,20 @@
-use Rattle.std.proofs.Common.{rules, ◌≡◌, [], ◌∷◌, ◌<◌, ◌≤◌, length, ℕ, ◌+◌, ◌-◌, ◌*◌, ◌/◌, ◌%◌, Bool, true, false, nat_eq, nat_lt, List, ◌++◌, slice_index_or, slice_set, bit_and, bit_or, Fits, w8, w32, w64, Bor, MutBor}
-use Rattle.relation.specs.Rel.{Rel, diagonal, nodes}
-use Rattle.relation.specs.Bits.{bit, edge}
-use Rattle.relation.specs.Ring.{RingOrNone}
-use Rattle.models.specs.Graph.{Base}
-use Rattle.models.specs.Term.{eval, frₑ, coₑ}
-use Rattle.models.specs.Rules.{Model}
-use Rattle.verdict.specs.Base.{base_of}
-use Rattle.verdict.specs.Shown.{Hold, Tried, Around, Shown}
+-- `shown::atomicity` meets its contract: the first broken pair, or none is.
+use mathlib.Core.Path.{ap}
+use Rattle.models.specs.Rules.{failures}
+use Rattle.models.proofs.FirstLaws.{at}
+use Rattle.verdict.specs.Verdict.{number}
+use Rattle.verdict.proofs.PairLaws.{pair_none}
+use Rattle.verdict.proofs.ShownLaws.{pair_same, next_rule, tried_broken, tried_holds, shown_4}
 use Rattle.verdict.proofs.shown.atomicity.Goals as goal
 
--- src/shown.rt:83:9
 pub returns-in-Some : goal.returns-in-Some
-returns-in-Some c = ?
+returns-in-Some c =
+    λ M B s e hold p q r.
+    let (rule, events) = c.broken_pair.ensures in
+    tried_broken (shown_4 M B s e _ hold (pair_same (c.broken_pairs-pairs.ensures B p q r) c.in-Some.ensures) (ap number rule) events)
 
--- src/shown.rt:78:1
 pub returns : goal.returns
-returns c = ?
+unfolding failures at
+returns c =
+    λ M B s e hold p q r.
+    tried_holds (next_rule M B 3 hold (pair_none (pair_same (c.broken_pairs-pairs.ensures B p q r) c.in_default.ensures)))

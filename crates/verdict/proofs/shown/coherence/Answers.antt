@@ -1,18 +1,23 @@
-use Rattle.std.proofs.Common.{rules, ◌≡◌, [], ◌∷◌, ◌<◌, ◌≤◌, length, ℕ, ◌+◌, ◌-◌, ◌*◌, ◌/◌, ◌%◌, Bool, true, false, nat_eq, nat_lt, List, ◌++◌, slice_index_or, slice_set, bit_and, bit_or, Fits, w8, w32, w64, Bor, MutBor}
-use Rattle.relation.specs.Rel.{Rel, diagonal, nodes}
-use Rattle.relation.specs.Bits.{bit, edge}
-use Rattle.relation.specs.Ring.{RingOrNone}
-use Rattle.models.specs.Graph.{Base}
-use Rattle.models.specs.Term.{eval, frₑ, coₑ}
-use Rattle.models.specs.Rules.{Model}
-use Rattle.verdict.specs.Base.{base_of}
-use Rattle.verdict.specs.Shown.{Hold, Tried, Around, Shown}
+-- `shown::coherence` meets its contract: a ring where an event is forbidden, else none is.
+use mathlib.Core.Path.{sym, ap, ◌∙◌}
+use mathlib.Core.Bool.{not}
+use Rattle.relation.specs.Rel.{Set, some, nodes}
+use Rattle.relation.proofs.SmallestLaws.{empty_none, empty_some}
+use Rattle.models.specs.Rules.{failures}
+use Rattle.models.proofs.FirstLaws.{at}
+use Rattle.verdict.specs.Verdict.{number}
+use Rattle.verdict.proofs.ShownLaws.{ring_same, next_rule, tried_broken, tried_holds, shown_3}
 use Rattle.verdict.proofs.shown.coherence.Goals as goal
 
--- src/shown.rt:72:9
 pub returns-then-is_empty : goal.returns-then-is_empty
-returns-then-is_empty c = ?
+unfolding failures at
+returns-then-is_empty c =
+    λ M B s e hold is p q around.
+    tried_holds (next_rule M B 2 hold (empty_none _ (sym (c.is_empty.ensures ∙ ap (λ (s : Set). not (some nodes s)) is) ∙ c.if-is_empty.true)))
 
--- src/shown.rt:67:1
 pub returns : goal.returns
-returns c = ?
+returns c =
+    λ M B s e hold is p q around. let found = c.broken_ring.ensures in
+    tried_broken
+    (shown_3 M B s e _ hold (empty_some _ (sym (c.is_empty.ensures ∙ ap (λ (s : Set). not (some nodes s)) is) ∙ c.if-is_empty.false)) around
+    (ap number found.rule) found.bounded (ring_same p q found.ring))

@@ -1,26 +1,36 @@
-use Rattle.std.proofs.Common.{rules, ◌≡◌, [], ◌∷◌, ◌<◌, ◌≤◌, length, ℕ, ◌+◌, ◌-◌, ◌*◌, ◌/◌, ◌%◌, Bool, true, false, nat_eq, nat_lt, List, ◌++◌, slice_index_or, slice_set, bit_and, bit_or, Fits, w8, w32, w64, Bor, MutBor}
-use Rattle.relation.specs.Rel.{Rel, diagonal, nodes}
-use Rattle.relation.specs.Bits.{bit, edge}
-use Rattle.relation.specs.Ring.{RingOrNone}
-use Rattle.models.specs.Graph.{Base}
-use Rattle.models.specs.Term.{eval, frₑ, coₑ}
-use Rattle.models.specs.Rules.{Model}
-use Rattle.verdict.specs.Base.{base_of}
-use Rattle.verdict.specs.Shown.{Hold, Tried, Around, Shown}
+-- `shown::completeness` meets its contract: what the searches for rules 1 and 2 find or do not find.
+use mathlib.Core.Path.{refl, sym, ap, ◌∙◌}
+use Rattle.relation.specs.Rel.{smallest}
+use Rattle.relation.proofs.SmallestLaws.{smallest_some}
+use Rattle.models.specs.Rules.{first, failures}
+use Rattle.models.proofs.FirstLaws.{at}
+use Rattle.verdict.specs.Verdict.{number}
+use Rattle.verdict.proofs.PairLaws.{some_smallest, none_smallest, pair_none}
+use Rattle.verdict.proofs.ShownLaws.{next_rule, tried_broken, tried_holds, shown_1, shown_2}
 use Rattle.verdict.proofs.shown.completeness.Goals as goal
 
--- src/shown.rt:58:20
 pub broken_event-requires : goal.broken_event-requires
-broken_event-requires c = ?
+broken_event-requires c = let (_, h) = smallest_some _ _ (sym c.first.ensures ∙ c.in-Some.is) in h
 
--- src/shown.rt:58:9
 pub returns-in-Some : goal.returns-in-Some
-returns-in-Some c = ?
+returns-in-Some c =
+    λ M s e.
+    let found = sym (c.first.ensures ∙ ap smallest c.unread.ensures) ∙ c.in-Some.is in
+    let (is, h) = smallest_some _ _ found in
+    let (rule, events) = c.broken_event.ensures in
+    tried_broken (shown_1 M _ s e _ (some_smallest _ _ found) is (ap number rule) events)
 
--- src/shown.rt:61:9
 pub returns-in-Some-unordered : goal.returns-in-Some-unordered
-returns-in-Some-unordered c = ?
+unfolding failures at first
+returns-in-Some-unordered c =
+    λ M s e.
+    let none = sym (c.first.ensures ∙ ap smallest c.unread.ensures) ∙ c.in_default.is in
+    let (rule, events) = c.broken_pair.ensures in
+    tried_broken (shown_2 M _ s e _ (next_rule M _ 0 refl (none_smallest _ none)) c.in-Some-unordered.ensures (ap number rule) events)
 
--- src/shown.rt:54:1
 pub returns : goal.returns
-returns c = ?
+unfolding failures at first
+returns c =
+    λ M s e.
+    let none = sym (c.first.ensures ∙ ap smallest c.unread.ensures) ∙ c.in_default.is in
+    tried_holds (next_rule M _ 1 (next_rule M _ 0 refl (none_smallest _ none)) (pair_none c.in_default-unordered.ensures))

@@ -1,11 +1,9 @@
-use Rattle.std.proofs.Common.{rules, ◌≡◌, ℕ, ◌+◌, ◌-◌, ◌*◌, ◌<◌, ◌≤◌, length, ◌/◌, ◌%◌, Bool, true, false, nat_eq, nat_lt, List, [], ◌∷◌, ◌++◌, slice_index_or, slice_set, bit_and, bit_or, Fits, w8, w32, w64, Bor, MutBor}
-use Rattle.relation.specs.Rel.{nodes}
-use Rattle.relation.specs.Bits.{edge}
-use Rattle.models.specs.Term.{eval, po_loc, rfₑ, rfᵢ, coₑ, coᵢ}
-use Rattle.models.specs.Term as term
+-- `Base::coi` meets its contract: its definition, call by call.
+use Rattle.models.specs.Term.{eval, coᵢ}
 use Rattle.verdict.specs.Base.{base_of}
+use Rattle.verdict.proofs.TermLaws.{holds, terms}
 use Rattle.verdict.proofs.base.Base.coi.Goals as goal
 
--- src/base.rt:73:5
 pub returns : goal.returns
-returns c = ?
+unfolding eval base_of
+returns c = holds (base_of c.args.self.now) coᵢ (search terms depth 9)

@@ -1,0 +1,10 @@
+-- `ar::ppo` meets its contract: its definition, call by call.
+use Rattle.models.specs.Term.{eval}
+use Rattle.models.specs.Imm.{ppo}
+use Rattle.verdict.specs.Base.{base_of}
+use Rattle.verdict.proofs.TermLaws.{holds, terms}
+use Rattle.imm.proofs.ar.ppo.Goals as goal
+
+pub returns : goal.returns
+unfolding eval base_of
+returns c = holds (base_of c.args.b.now) ppo (search terms depth 12)

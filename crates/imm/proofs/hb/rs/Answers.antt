@@ -1,0 +1,10 @@
+-- `hb::rs` meets its contract: its definition, call by call.
+use Rattle.models.specs.Term.{eval}
+use Rattle.models.specs.Imm.{rs}
+use Rattle.verdict.specs.Base.{base_of}
+use Rattle.verdict.proofs.TermLaws.{holds, terms}
+use Rattle.imm.proofs.hb.rs.Goals as goal
+
+pub returns : goal.returns
+unfolding eval base_of
+returns c = holds (base_of c.args.b.now) rs (search terms depth 12)

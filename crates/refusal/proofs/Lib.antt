@@ -1,0 +1,2 @@
+-- Laws of refusals that the crates above share.
+pub mod RefusalLaws
