@@ -2,14 +2,13 @@
 
 #![tactic(auto, using(crate::proofs::LegalLaws::legal_tests), unfolding(crate::specs::Causes::read_legal, crate::specs::Causes::write_legal, crate::specs::Causes::fence_mode, crate::specs::Causes::fence_legal, crate::specs::Causes::legal, crate::specs::Causes::event_legal, crate::specs::Causes::same_locations, crate::specs::Causes::rf_legal, crate::specs::Causes::co_legal, crate::specs::Causes::rmw_legal, crate::specs::Causes::data_legal, crate::specs::Causes::addr_legal, crate::specs::Causes::ctrl_legal, crate::specs::Causes::casdep_legal, crate::specs::Causes::link_legal, crate::specs::Causes::link_sound))]
 
-ghost use Rattle.std.specs.Prelude.{◌≡◌, not, ◌&&◌, ◌||◌, ◌≤◌, ◌<◌, eqb, leb};
+ghost use Rattle.std.specs.Prelude.{◌≡◌, ◌≤◌, ◌<◌};
 ghost use Rattle.relation.specs.Rel.{nodes};
 ghost use Rattle.models.specs.Graph.{base};
-ghost use Rattle.models.specs.Recording.{of_class, flagged};
 ghost use Rattle.layout.specs.Layout.{side, events, links, link_byte, Sized};
 ghost use Rattle.layout.specs.Chains.{each};
 ghost use Rattle.layout.specs.Decode.{decode};
-ghost use Rattle.recording.specs.Causes.{read_legal, write_legal, fence_mode, fence_legal, legal, event_legal, same_locations, rf_legal, co_legal, rmw_legal, from_read, data_legal, addr_legal, casdep_legal, link_legal, link_sound};
+ghost use Rattle.recording.specs.Causes.{read_legal, write_legal, fence_mode, fence_legal, legal, event_legal, same_locations, rf_legal, co_legal, rmw_legal, from_read, link_legal, link_sound};
 
 use layout::field;
 

@@ -94,9 +94,11 @@ pub fn turned(way: Events) -> Events
     requires { 0 < length way.items }
     ensures { Turned way.items result.items }
 {
-    let mut ring = way;
-    let m = smallest_at(&ring);
-    ring.rotate_left(m);
+    let events = way.as_slice();
+    let m = smallest_at(events);
+    let mut ring = Events::new();
+    ring.try_extend_from_slice(&events[m..]).unwrap();
+    ring.try_extend_from_slice(&events[..m]).unwrap();
     ring
 }
 

@@ -5,10 +5,8 @@ use mathlib.Core.List.{List, [], ◌∷◌}
 use Prim.Native.Nat.{ℕ, suc, ◌+◌, ◌*◌, ◌<◌, ◌≤◌}
 use native.Mathlib.Numerals.{add-one}
 use native.Mathlib.Omega.{arith}
-use borrow.Author.Count.{below_more}
 use lib.Dec.{eqb}
 use Rattle.relation.specs.Rel.{count}
-use Rattle.relation.proofs.SetLaws.{least_at, least_none}
 use Rattle.relation.proofs.Counting.{count_next_yes, count_next_no}
 use Rattle.models.specs.Recording as recording
 use Rattle.layout.specs.Layout.{events, event_byte}

@@ -1,5 +1,4 @@
 -- `event::record` meets its contract: the record of an inserted fence, or of a recorded event.
-use mathlib.Core.Path.{◌≡◌}
 use native.Mathlib.Omega.{arith}
 use Rattle.translation.proofs.SourceFacts.{sized}
 use Rattle.translation.proofs.EventLaws.{record_made, record_kept}
