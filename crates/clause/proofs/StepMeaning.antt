@@ -1,18 +1,18 @@
 -- The steps of a ring by the tests of clauses are those by the execution graph: each has a clause, and its number is that of the first.
 use mathlib.Core.Bool.{true}
-use mathlib.Core.Path.{◌≡◌, refl, sym, ap, subst, ◌∙◌}
+use mathlib.Core.Path.{◌≡◌, refl, sym, subst, ◌∙◌}
 use mathlib.Core.List.{List, []}
-use Prim.Native.Nat.{ℕ, zero, suc, ◌<◌}
+use Prim.Native.Nat.{ℕ, zero, ◌<◌}
 use native.Mathlib.Decide.{ℕ_discrete}
 use native.Mathlib.Nat.{not-suc-le-zero}
 use borrow.Author.Tests.{ne_eqb}
-use lib.ListN.{length, get_or, take}
+use lib.ListN.{length, get_or}
 use Rattle.relation.specs.Rel.{Rel, nodes}
 use Rattle.relation.specs.Ring.{after, Ring}
 use Rattle.models.specs.Recording.{Recording}
 use Rattle.models.specs.Graph.{base, Within}
 use Rattle.models.specs.Term.{eval}
-use Rattle.models.specs.Rules.{Model, verdict}
+use Rattle.models.specs.Rules.{Model}
 use Rattle.models.specs.Clause.{Clause, tested, number_from, unions}
 use Rattle.models.specs.Why.{Clauses, clauses_of}
 use Rattle.models.proofs.ClauseLaws.{first_clause}

@@ -4,7 +4,6 @@
 
 ghost use Rattle.std.specs.Prelude.{◌≡◌, List, map, ◌<◌, ◌≤◌, length};
 ghost use Rattle.relation.specs.Bits.{edge};
-ghost use Rattle.relation.specs.Ring.{after};
 ghost use Rattle.models.specs.Graph.{Base};
 ghost use Rattle.models.specs.Armv8.{sc_per_loc_clauses};
 ghost use Rattle.models.specs.Clause.{Clause, number_from, unions};

@@ -4,16 +4,15 @@ use mathlib.Core.List.{List, [], ◌∷◌}
 use mathlib.Core.Bool.{Bool, true, false, not, ◌&&◌, ◌||◌, false≢true, and-false, or-false, or-true}
 use Prim.Native.Nat.{ℕ, ◌<◌, ◌≤◌}
 use native.Mathlib.Omega.{arith}
-use borrow.Author.Tests.{lt-ltb}
+use borrow.Author.Tests.{lt-ltb, le-ltb}
 use lib.Dec.{eqb, ltb}
 use Rattle.std.specs.Prelude.{Option, Some, None}
 use Rattle.relation.specs.Rel.{Set, Rel, union, intersection, difference, either, inverse, identity, optional, some, image, least, smallest, members, nodes}
 use Rattle.relation.specs.Ring.{under}
 use Rattle.relation.proofs.Truth.{is_false, same_test, and_right, and_both}
-use Rattle.relation.proofs.SetLaws.{least_is}
 use Rattle.relation.proofs.SmallestLaws.{smallest_some, smallest_none, smallest_member, smallest_nothing}
 use Rattle.relation.proofs.MemberLaws.{Searching, searching_start, searching_member, searching_next, searching_found, searching_none}
-use Rattle.relation.proofs.Meaning.{mem_below, below_mem, some_sound, some_complete}
+use Rattle.relation.proofs.Meaning.{mem_below, below_mem, some_sound, some_complete, some_least}
 use Rattle.models.specs.Recording.{R, W}
 use Rattle.models.specs.Graph.{Base}
 use Rattle.models.specs.Rules.{anywhere, unread, unordered}
@@ -27,10 +26,10 @@ none_some s none =
 
 -- Some event is in s exactly where the least one is below 64.
 pub some_below : (s : Set) → least 64 s < 64 → some nodes s ≡ true
-some_below s h = some_complete nodes s (least 64 s) (mem_below 64 (least 64 s) h) ((least_is 64 s).member h)
+some_below s h = sym (some_least s) ∙ lt-ltb (least 64 s) 64 h
 
 pub some_above : (s : Set) → 64 ≤ least 64 s → some nodes s ≡ false
-some_above s h = none_some s (λ x q. (least_is 64 s).smaller x (omega arith))
+some_above s h = sym (some_least s) ∙ le-ltb (least 64 s) 64 h
 
 -- So it is as s has a smallest member or none.
 pub some_smallest : (s : Set) (k : ℕ) → smallest s ≡ Some k → some nodes s ≡ true

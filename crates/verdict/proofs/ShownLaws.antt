@@ -1,6 +1,6 @@
 -- Laws of the checks of the rules, in order: what they say of the verdict.
 use mathlib.Core.Path.{◌≡◌, refl, sym, ap, subst, ◌∙◌}
-use mathlib.Core.Bool.{true, false, false≢true}
+use mathlib.Core.Bool.{Bool, true, false, not, false≢true}
 use mathlib.Core.List.{List, [], ◌∷◌}
 use Prim.Native.Nat.{ℕ, zero, suc, ◌≤◌}
 use native.Mathlib.Omega.{arith}
@@ -8,9 +8,10 @@ use native.Mathlib.Decide.{dec_lt}
 use lib.ListN.{length}
 use Rattle.std.specs.Prelude.{Option, Some, Result, Ok, Err, IsErrAnd}
 use Rattle.std.proofs.lemmas.Result.{err_from_is_err_and}
-use Rattle.relation.specs.Rel.{Rel, some, least, diagonal, plus, nodes}
+use Rattle.relation.specs.Rel.{Set, Rel, some, least, diagonal, plus, nodes}
 use Rattle.relation.specs.Ring.{ShortestRing, RingOrNone, closed}
 use Rattle.relation.specs.Order.{order}
+use Rattle.relation.proofs.SmallestLaws.{empty_none, empty_some}
 use Rattle.relation.proofs.Meaning.{some_sound}
 use Rattle.relation.proofs.Walks.{Inside}
 use Rattle.relation.proofs.RingMeaning.{plus_closed}
@@ -23,6 +24,17 @@ use Rattle.verdict.specs.declared.rules.Pair.{Pair}
 use Rattle.verdict.specs.Verdict.{Verdict, rule_of, events}
 use Rattle.verdict.specs.Shown.{first_of, second_of, Shown, FirstPair, Hold, Tried, Around}
 use Rattle.verdict.proofs.PairLaws.{pair_found}
+
+-- Whether the test finds no event of the set, or one.
+module _ {b : Bool} {s : Set} (t : Set) (test : b ≡ not (some nodes s)) (is : s ≡ t) where
+  same_test : not (some nodes t) ≡ b
+  same_test = sym (test ∙ ap (λ (u : Set). not (some nodes u)) is)
+
+  pub event_none : b ≡ true → some nodes t ≡ false
+  event_none e = empty_none t (same_test ∙ e)
+
+  pub event_found : b ≡ false → some nodes t ≡ true
+  event_found e = empty_some t (same_test ∙ e)
 
 -- The same of an equal relation.
 pub ring_same : {r e s c : Rel} {l : List ℕ} → r ≡ s → e ≡ c → RingOrNone r e l → RingOrNone s c l

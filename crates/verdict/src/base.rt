@@ -1,5 +1,7 @@
 // The base of an execution graph: its sets as rows, its relations as grids, and the relations that follow from them at once.
 
+#![tactic(auto, unfolding(crate::specs::Base::base_of, models::specs::Term::eval))]
+
 ghost use Rattle.std.specs.Prelude.{◌≡◌};
 ghost use Rattle.relation.specs.Rel.{nodes};
 ghost use Rattle.relation.specs.Bits.{edge};

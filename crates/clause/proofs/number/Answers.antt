@@ -1,10 +1,7 @@
 -- `number` meets its contract: n of the clauses are passed.
-use mathlib.Core.Path.{refl, sym, ◌∙◌}
+use mathlib.Core.Path.{sym, ◌∙◌}
 use Rattle.clause.proofs.StepLaws.{passed_more, passed_here, passed_all}
 use Rattle.clause.proofs.number.Goals as goal
-
-pub loop-n-init : goal.loop-n-init
-loop-n-init c = refl
 
 pub returns-then-holds : goal.returns-then-holds
 returns-then-holds c =

@@ -5,16 +5,12 @@ use lib.ListN.{length}
 use Rattle.relation.specs.Ring.{after}
 use Rattle.clause.specs.Steps.{steps_to}
 use Rattle.clause.proofs.StepLaws.{after_next, after_last, made_more}
-use borrow.Author.Rules.{rules}
 use Rattle.clause.proofs.steps.Goals.{then-k-ring, else-k-ring}
 use Rattle.clause.proofs.steps.Goals as goal
 
 pub loop-k-init : goal.loop-k-init
 unfolding steps_to
 loop-k-init c = (c.new-steps.ensures, ap length c.new-steps.ensures)
-
-pub push-requires : goal.push-requires
-push-requires c = (search rules, omega (arith, c.loop-k.invariant.1, c.loop-k-test.true, c.requires.0))
 
 pub loop-k-preserved : goal.loop-k-preserved
 loop-k-preserved c =
@@ -23,6 +19,3 @@ loop-k-preserved c =
       | else-k-ring w ↦ w.b-is ∙ after_last _ _ w.if-k-ring.false
     ] in
     (made_more _ _ _ c.loop-k.invariant.0 b c.number.ensures c.push.ensures.items, omega (arith, c.push.ensures.len, c.loop-k.invariant.1))
-
-pub returns : goal.returns
-returns c = c.loop-k.invariant.0 ∙ ap (steps_to _ c.args.ring.now) (omega arith)

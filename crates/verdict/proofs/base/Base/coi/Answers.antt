@@ -1,9 +1,0 @@
--- `Base::coi` meets its contract: its definition, call by call.
-use Rattle.models.specs.Term.{eval, coᵢ}
-use Rattle.verdict.specs.Base.{base_of}
-use Rattle.verdict.proofs.TermLaws.{holds, terms}
-use Rattle.verdict.proofs.base.Base.coi.Goals as goal
-
-pub returns : goal.returns
-unfolding eval base_of
-returns c = holds (base_of c.args.self.now) coᵢ (search terms depth 9)
