@@ -1,6 +1,6 @@
 -- What a verdict on a file shows: where it is allowed, every event of the recording exactly once; where rule 3 or 5 is broken, no more events
 -- than any way that breaks the rule has steps.
-use mathlib.Core.Path.{◌≡◌, sym}
+use mathlib.Core.Path.{sym}
 use mathlib.Core.List.{List}
 use Prim.Native.Nat.{ℕ, suc, ◌≤◌}
 use native.Mathlib.Omega.{arith}

@@ -1,5 +1,5 @@
 -- What the arrays of a recording hold is its base, and what follows for a verdict over them.
-use mathlib.Core.Path.{◌≡◌, sym, ap, subst, ◌∙◌}
+use mathlib.Core.Path.{◌≡◌, ap, subst, ◌∙◌}
 use mathlib.Core.List.{List, []}
 use Prim.Native.Nat.{ℕ, ◌≤◌, ◌<◌}
 use lib.ListN.{get_or}
@@ -17,7 +17,9 @@ use Rattle.reading.specs.Sets.{LinkRows}
 use Rattle.models.specs.Rules.{Model, verdict}
 use Rattle.models.specs.Clause.{Clause}
 use Rattle.models.proofs.Agree.{recording_verdict}
-use Rattle.recording.proofs.Loaded.{loaded_within}
+use Rattle.recording.proofs.Accepted.{sized, threads_sound_lem}
+use Rattle.recording.proofs.Loaded.{loaded_within, loaded_readable, loaded_located}
+use Rattle.reading.proofs.SortLaws.{class_recorded}
 use Rattle.refusal.specs.declared.Refusal.{Refusal}
 use Rattle.refusal.specs.Refusal.{number}
 use Rattle.verdict.specs.declared.base.Base.{Base}
@@ -50,6 +52,9 @@ pub links_of : {f : List ℕ} {rows : List (List (List ℕ))} → LinkRows f row
     → g ≡ (decode f).link t
 unfolding inverse
 links_of w t h k p = p ∙ ap inverse (w.grid t h k)
+
+-- What a file that loads gives to what is read from it: by these the check finds what the calls ask for.
+pub ruleset loaded = (sized, threads_sound_lem, loaded_readable, loaded_located, class_recorded, links_of)
 
 -- A verdict over the base of a file that loads is one on its recording.
 module _ (M : Model) (Judged : graph.Base → Verdict → Type 0) (f : List ℕ) where

@@ -18,6 +18,7 @@ use relation::{grid, row};
 use verdict::base::Base;
 
 // All events.
+#[tactic(auto, using(crate::proofs::BaseOf::loaded))]
 pub fn events(file: &[u8]) -> Row
     requires { refusal file.now ≡ 0 }
     ensures { bit result ≡ event (decode file.now) }
@@ -34,6 +35,7 @@ pub fn control(file: &[u8], po: Grid, links: Grid) -> Grid
 }
 
 // The base: reads and writes are sorted by mode and by flag, fences by mode.
+#[tactic(auto, using(crate::proofs::BaseOf::loaded))]
 pub fn base(file: &[u8]) -> Base
     requires { refusal file.now ≡ 0 }
     ensures sets { SetsOf (decode file.now) result }

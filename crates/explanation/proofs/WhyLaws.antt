@@ -1,62 +1,107 @@
--- Laws of the lines of steps, put one behind the other.
-use mathlib.Core.Path.{◌≡◌, sym, ap, ap₂, subst, ◌∙◌}
+-- Laws of the lines of steps, put one behind the other, and of verdicts with their steps.
+use mathlib.Core.Path.{◌≡◌, refl, sym, ap, subst, ◌∙◌}
 use mathlib.Core.List.{List, [], ◌∷◌, ◌++◌, map, append_assoc, append-nil}
-use Prim.Native.Nat.{ℕ, ◌+◌, ◌*◌, ◌<◌, ◌≤◌}
+use Prim.Native.Nat.{ℕ, ◌+◌, ◌<◌}
 use native.Mathlib.Numerals.{add-one}
 use native.Mathlib.Omega.{arith}
 use lib.ListN.{length, get_or, take}
 use lib.Seq.{take-suc}
+use Rattle.std.specs.Prelude.{Ok, Err}
+use Rattle.arrayvec.specs.ArrayVec.{ArrayVec}
+use Rattle.models.specs.Recording.{Recording}
 use Rattle.models.specs.Clause.{Clause}
+use Rattle.models.specs.Why.{Clauses, clauses_of, imm_rings, armv8_rings, tso_rings}
 use Rattle.layout.specs.Decode.{decode}
-use Rattle.verdict.specs.declared.Verdict.{Verdict}
-use Rattle.clause.specs.Steps.{joined, Explained}
+use Rattle.verdict.specs.Verdict.{Verdict, number, rule_of}
+use Rattle.verdict.specs.declared.Broken.{Broken}
+use Rattle.clause.specs.Steps.{joined, ring, Explained}
 use Rattle.translation.specs.Translation.{translation}
-use Rattle.judgement.specs.Judgement.{OnChip}
-use Rattle.explanation.specs.declared.Explanation.{Explanation}
+use Rattle.lines.specs.Lines.{source, chip, tso}
+use Rattle.judgement.specs.Judgement.{OnSource, OnChip, OnTso, line_for}
+use Rattle.judgement.proofs.PrintLaws.{source_lines}
+use Rattle.explanation.specs.StepLine.{step_lines}
+use Rattle.explanation.specs.Why.{Reasoned, Reasons, SourceWhy}
 
-lines_last : (f : List ℕ → List ℕ) (ls : List (List ℕ)) (l : List ℕ) → joined (map f (ls ++ (l ∷ []))) ≡ joined (map f ls) ++ f l
-lines_last f [] l = append-nil (f l)
-lines_last f (k ∷ ls) l = ap (λ (m : List ℕ). f k ++ m) (lines_last f ls l) ∙ sym (append_assoc (f k) (joined (map f ls)) (f l))
+joined_last : (f : List ℕ → List ℕ) (ls : List (List ℕ)) (l : List ℕ) → joined (map f (ls ++ (l ∷ []))) ≡ joined (map f ls) ++ f l
+joined_last f [] l = append-nil (f l)
+joined_last f (k ∷ ls) l = ap (λ (m : List ℕ). f k ++ m) (joined_last f ls l) ∙ sym (append_assoc (f k) (joined (map f ls)) (f l))
 
-abbrev pub written : Explanation → List ℕ
-written t = take t.len t.at
+pub joined_more : (f : List ℕ → List ℕ) (ls : List (List ℕ)) (k : ℕ) → k < length ls
+    → joined (map f (take (k + 1) ls)) ≡ joined (map f (take k ls)) ++ f (get_or ls k [])
+joined_more f ls k h =
+    ap (λ (n : ℕ). joined (map f (take n ls))) (add-one k)
+    ∙ ap (λ (l : List (List ℕ)). joined (map f l)) (take-suc ls k [] h)
+    ∙ joined_last f (take k ls) (get_or ls k [])
 
--- The lines of the first k steps are behind the text t.
-module _ (t : Explanation) (f : List ℕ → List ℕ) (steps : List (List ℕ)) where
-  pub record Lined (k : ℕ) (r : Explanation) : Type 0 where
-    pub text : written r ≡ written t ++ joined (map f (take k steps))
-    pub size : r.len ≤ t.len + 44 * k
+-- An allowed verdict shows no ring, and needs no step.
+pub none_explained : (cs : List Clause) (r : Recording ℕ) (all : ArrayVec ℕ) → Explained cs r (ring (Ok all)) []
+unfolding ring
+none_explained cs r all = record { number = λ a b. 0; first = λ k h. absurd (omega arith); are = refl }
 
-  pub lined_none : Lined 0 t
-  lined_none = record { text = sym (append-nil (written t)); size = omega arith }
+-- The line of a step more.
+pub lines_more : (f : List ℕ → List ℕ) (steps : List (List ℕ)) (k : ℕ) (before : List ℕ) {text line after : List ℕ} → k < length steps
+    → text ≡ before ++ joined (map f (take k steps)) → after ≡ text ++ line → line ≡ f (get_or steps k [])
+    → after ≡ before ++ joined (map f (take (k + 1) steps))
+lines_more f steps k before {line = line} h p q e =
+    q
+    ∙ ap (λ (l : List ℕ). l ++ line) p
+    ∙ append_assoc before (joined (map f (take k steps))) line
+    ∙ ap (λ (l : List ℕ). before ++ (joined (map f (take k steps)) ++ l)) e
+    ∙ ap (λ (l : List ℕ). before ++ l) (sym (joined_more f steps k h))
 
-  pub lined_more : (k : ℕ) (r z : Explanation) → Lined k r → k < length steps → (line : List ℕ) (n : ℕ) → line ≡ f (get_or steps k []) → n ≤ 44
-      → written z ≡ written r ++ line → z.len ≡ r.len + n → Lined (k + 1) z
-  lined_more k r z w h line n e few p s =
+module _ {C : Clauses} {word : List ℕ} {r : Recording ℕ} {v : Verdict} {before first line : List ℕ} (p : first ≡ before ++ line) (e : line ≡ line_for word v) where
+  -- A verdict that is allowed has its line alone,
+  pub none_reasons : {all : ArrayVec ℕ} → v ≡ Ok all → Reasons C word r v before first
+  none_reasons {all} is =
       record {
-        text = p
-            ∙ ap₂ ◌++◌ w.text e
-            ∙ append_assoc (written t) (joined (map f (take k steps))) (f (get_or steps k []))
-            ∙ ap (λ (l : List ℕ). written t ++ l) (sym (lines_last f (take k steps) (get_or steps k [])))
-            ∙ ap (λ (l : List (List ℕ)). written t ++ joined (map f l)) (sym (take-suc steps k [] h) ∙ ap (λ (j : ℕ). take j steps) (sym (add-one k)));
-        size = omega (arith, w.size, s);
+        steps = [];
+        explained = subst (λ (v : Verdict). Explained (clauses_of C (rule_of v)) r (ring v) []) (sym is) (none_explained _ r all);
+        prints = p ∙ ap (λ (l : List ℕ). before ++ l) (e ∙ sym (append-nil (line_for word v)));
       }
 
-  pub lined_all : (n k : ℕ) (r : Explanation) → Lined k r → k ≤ n → n ≤ k → Lined n r
-  lined_all n k r w g h = (let same : k ≡ n = omega arith in subst (λ (j : ℕ). Lined j r) same w)
+  -- and one that is broken the lines of the steps too.
+  pub ring_reasons : {broken : Broken} {steps : List (List ℕ)} {after : List ℕ} → v ≡ Err broken → Explained (clauses_of C (rule_of v)) r (ring v) steps
+      → after ≡ first ++ step_lines word (clauses_of C (number broken.rule)) steps → Reasons C word r v before after
+  ring_reasons {broken} {steps} is w q =
+      let lines = step_lines word (clauses_of C (number broken.rule)) steps in
+      record {
+        steps = steps;
+        explained = w;
+        prints = q
+            ∙ ap (λ (l : List ℕ). l ++ lines) (p ∙ ap (λ (l : List ℕ). before ++ l) e)
+            ∙ append_assoc before (line_for word v) lines
+            ∙ ap (λ (n : ℕ). before ++ (line_for word v ++ step_lines word (clauses_of C n) steps)) (sym (ap rule_of is));
+      }
 
--- What stands behind no bytes.
-pub behind_none : (t : Explanation) {r l : List ℕ} → t.len ≡ 0 → r ≡ written t ++ l → r ≡ l
-behind_none t {r} {l} e w = w ∙ ap (λ (n : ℕ). take n t.at ++ l) e
+-- The text alone.
+reasoned : {On : List ℕ → Verdict → Type 0} {C : Clauses} {word f text before after : List ℕ} {v : Verdict} → On f v
+    → (w : Reasons C word (decode f) v before after) → text ≡ line_for word v ++ step_lines word (clauses_of C (rule_of v)) w.steps → Reasoned On C word f text
+reasoned {v = v} on w p = record { verdict = v; judged = on; steps = w.steps; explained = w.explained; prints = p }
 
--- A line and the lines of its steps, behind a text.
-pub behind_line : (t first r line l steps : List ℕ) → first ≡ t ++ line → line ≡ l → r ≡ first ++ steps → r ≡ t ++ (l ++ steps)
-behind_line t first r line l steps a e b = b ∙ ap (λ (m : List ℕ). m ++ steps) (a ∙ ap (λ (m : List ℕ). t ++ m) e) ∙ append_assoc t l steps
+pub reasoned_alone : {On : List ℕ → Verdict → Type 0} {C : Clauses} {word f before after : List ℕ} {v : Verdict} → before ≡ [] → On f v
+    → Reasons C word (decode f) v before after → Reasoned On C word f after
+reasoned_alone {C = C} {word} {v = v} e on w =
+    reasoned on w (w.prints ∙ ap (λ (l : List ℕ). l ++ (line_for word v ++ step_lines word (clauses_of C (rule_of v)) w.steps)) e)
 
--- A verdict and steps on the bytes of a translation.
-pub chip_judged_as : (f g : List ℕ) (v : Verdict) → g ≡ translation f → OnChip (translation f) v → OnChip g v
-chip_judged_as f g v e on = subst (λ (b : List ℕ). OnChip b v) (sym e) on
+-- The three verdicts of a source file, one behind the other.
+pub source_why : {f g t₀ t₁ t₂ t₃ : List ℕ} {v w u : Verdict} → t₀ ≡ [] → g ≡ translation f → OnSource f v → OnChip (translation f) w → OnTso f u
+    → (rule_of w ≡ 0 → rule_of v ≡ 0) → (rule_of u ≡ 0 → rule_of v ≡ 0)
+    → Reasons imm_rings source (decode f) v t₀ t₁ → Reasons armv8_rings chip (decode g) w t₁ t₂ → Reasons tso_rings tso (decode f) u t₂ t₃ → SourceWhy f t₃
+source_why {f} {g} {t₀} {t₁} {t₂} {v = v} {w} {u} e is on on_chip on_tso sound also a b c =
+    let b = subst (λ (l : List ℕ). Reasons armv8_rings chip (decode l) w t₁ t₂) is b in
+    let first = line_for source v ++ step_lines source (clauses_of imm_rings (rule_of v)) a.steps in
+    let second = line_for chip w ++ step_lines chip (clauses_of armv8_rings (rule_of w)) b.steps in
+    let third = line_for tso u ++ step_lines tso (clauses_of tso_rings (rule_of u)) c.steps in record {
+      on_source = first;
+      on_chip = second;
+      on_tso = third;
+      source = reasoned on a refl;
+      chip = reasoned on_chip b refl;
+      tso = reasoned on_tso c refl;
+      prints = c.prints ∙ ap (λ (l : List ℕ). l ++ third) (b.prints ∙ ap (λ (l : List ℕ). l ++ second) (a.prints ∙ ap (λ (l : List ℕ). l ++ first) e));
+      judges = source_lines on on_chip on_tso sound also refl;
+    }
 
-pub chip_explained : (f g : List ℕ) (cs : List Clause) (l : List ℕ) (steps : List (List ℕ)) → g ≡ translation f → Explained cs (decode g) l steps
-    → Explained cs (decode (translation f)) l steps
-chip_explained f g cs l steps e w = subst (λ (b : List ℕ). Explained cs (decode b) l steps) e w
+-- A verdict on the translation is one on its bytes.
+pub judged_bytes : (f g : List ℕ) (v : Verdict) → g ≡ translation f → OnChip (translation f) v → OnChip g v
+judged_bytes f g v e on = subst (λ (b : List ℕ). OnChip b v) (sym e) on

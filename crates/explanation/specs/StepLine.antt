@@ -1,5 +1,6 @@
 -- The line of a step of a ring, as the program why prints it: the model's word, the two events, the clause's name.
-use Rattle.std.specs.Prelude.{Bool, true, false, ◌≡◌, List, [], ◌∷◌, ◌++◌, map, ℕ, zero, suc, eqb, get_or}
+use Rattle.std.specs.Prelude.{◌≡◌, List, [], ◌∷◌, ◌++◌, map, ℕ, zero, suc, get_or}
+use Rattle.std.specs.Borrow.{Bor}
 use Prim.Native.Char.{code}
 use Prim.Native.String.{String, len, char_at}
 use Rattle.decimal.specs.Decimal.{decimal}
@@ -30,28 +31,6 @@ step_line word cs step = parted (word ∷ decimal (get_or step 0 0) ∷ decimal 
 abbrev pub step_lines : List ℕ → List Clause → List (List ℕ) → List ℕ
 step_lines word cs steps = joined (map (step_line word cs) steps)
 
--- The rest says what the parts do. A name is found among words that single spaces part, byte by byte, with the number of words from here to
--- the one that is wanted, which is 1 within it.
-abbrev pub left_at : Bool → ℕ → ℕ
-left_at true zero = zero
-left_at true (suc m) = m
-left_at false n = n
-
-abbrev pub left : ℕ → ℕ → ℕ
-left n b = left_at (eqb b 32) n
-
-abbrev pub kept_at : Bool → Bool → ℕ → List ℕ
-kept_at true one b = []
-kept_at false true b = b ∷ []
-kept_at false false b = []
-
-abbrev pub kept : ℕ → ℕ → List ℕ
-kept n b = kept_at (eqb b 32) (eqb n 1) b
-
-unfoldable pub word_at : ℕ → List ℕ → List ℕ
-word_at n [] = []
-word_at n (b ∷ l) = kept n b ++ word_at (left n b) l
-
--- The words are the names of the clauses.
-pub record Names (cs : List Clause) (words : List ℕ) : Type 0 where
-  pub each : (n : ℕ) → word_at n words ≡ name_of cs n
+-- The texts are the names of the clauses.
+abbrev pub Names : List Clause → List (Bor (List ℕ)) → Type 0
+Names cs texts = map (λ s. s.now) texts ≡ map (λ c. ascii (name c)) cs

@@ -36,7 +36,10 @@ fn release(b: &Base) -> Grid
 pub fn sw(b: &Base) -> Grid
     ensures { edge result ≡ eval nodes imm.sw (base_of b.now) }
 {
-    let read = grid::or(b.rfi(), grid::then(grid::optional(b.poloc(), b.events), b.rfe()));
+    let read = grid::or(
+        b.rfi(),
+        grid::then(grid::optional(b.poloc(), b.events), b.rfe()),
+    );
     let end = grid::or(grid::identity(b.racq), grid::into(b.po, b.facq));
     grid::then(release(b), grid::then(read, end))
 }
@@ -52,5 +55,8 @@ pub fn steps(b: &Base) -> Grid
 pub fn eco(b: &Base, fr: Grid) -> Grid
     ensures { edge fr ≡ eval nodes term.fr (base_of b.now) → edge result ≡ eval nodes imm.eco (base_of b.now) }
 {
-    grid::or(b.rf, grid::then(grid::or(b.co, fr), grid::optional(b.rf, b.events)))
+    grid::or(
+        b.rf,
+        grid::then(grid::or(b.co, fr), grid::optional(b.rf, b.events)),
+    )
 }

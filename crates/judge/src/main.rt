@@ -9,7 +9,5 @@ fn main(rt: HostRuntime) -> Result<()> {
     let mut start = [0u8; INPUT];
     let n = console::read(&mut rt.stdin(), &mut start)?;
     let lines = judgement::of_input(start, n);
-    let at = lines.at;
-    let len = lines.len;
-    console::write(&mut rt.stdout(), &at[..len])
+    console::write(&mut rt.stdout(), lines.as_slice())
 }

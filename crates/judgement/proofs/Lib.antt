@@ -1,5 +1,5 @@
 -- The laws and proofs of `judgement`.
+pub mod FitLaws
 pub mod ChipLaws
 pub mod PrintLaws
-pub mod TextLaws
 pub mod PageLaws

@@ -1,68 +1,63 @@
 -- Laws of what is printed: what the verdicts of the models say of each other, and the text by what loading answers.
-use mathlib.Core.Path.{◌≡◌, sym, ap, ap₂, subst, ◌∙◌}
+use mathlib.Core.Path.{◌≡◌, sym, ap, subst, ◌∙◌}
 use mathlib.Core.Bool.{false≢true}
-use mathlib.Core.List.{List, ◌++◌}
+use mathlib.Core.List.{List, [], ◌++◌}
 use mathlib.Core.Logic.{inl, inr}
 use Prim.Native.Nat.{ℕ, suc}
 use native.Mathlib.Omega.{arith}
 use lib.ListN.{length, take}
 use Rattle.layout.specs.Layout as layout
 use Rattle.recording.specs.Causes.{refusal}
-use Rattle.recording.specs.Load.{header_of, answer, load_of, number_of, LoadsAs}
+use Rattle.recording.specs.Load.{Loads, LoadsAs}
 use Rattle.recording.specs.Input.{ReadOf}
-use Rattle.recording.specs.declared.Load.{Load}
-use Rattle.recording.specs.declared.Load.TheVariants.{Refused, Loaded}
-use Rattle.recording.proofs.CauseLaws.{load_number}
+use Rattle.recording.specs.declared.Header.{Header}
+use Rattle.std.specs.Prelude.{Result, Err}
+use Rattle.refusal.specs.declared.Refusal.{Refusal}
+use Rattle.refusal.specs.Refusal.{number_of}
+use Rattle.refusal.proofs.RefusalLaws.{err_not_0}
 use Rattle.recording.proofs.Longest.{read_longest, read_of}
-use Rattle.verdict.specs.declared.Verdict.{Verdict}
-use Rattle.verdict.specs.Answer.{refuses, answers}
-use Rattle.verdict.proofs.ShownMeaning.{answers_injective}
+use Rattle.verdict.specs.Verdict.{Verdict, rule_of}
 use Rattle.translation.specs.Translation.{translation}
-use Rattle.lines.specs.Lines.{source, chip, tso, line_of}
+use Rattle.lines.specs.Lines.{source, chip, tso, refusal_line}
 use Rattle.soundness.specs.Soundness.{imm_verdict, armv8_verdict, tso_verdict}
 use Rattle.soundness.proofs.Proved.{soundness, tso_soundness}
 use Rattle.judgement.specs.Judgement.{OnSource, OnChip, OnTso, line_for, SourceLines, TextOf}
 
--- Verdicts of which one is allowed where the other is, as answers.
-allowed_sound : (m n : ℕ) (v w : Verdict) → v.answer ≡ answers m → w.answer ≡ answers n → (n ≡ 0 → m ≡ 0) → w.answer ≡ answers 0 → v.answer ≡ answers 0
-allowed_sound m n v w p q back h = p ∙ ap answers (back (answers_injective n 0 (sym q ∙ h)))
+-- Verdicts of which one is allowed where the other is.
+allowed_sound : (m n : ℕ) (v w : Verdict) → rule_of v ≡ m → rule_of w ≡ n → (n ≡ 0 → m ≡ 0) → rule_of w ≡ 0 → rule_of v ≡ 0
+allowed_sound m n v w p q back h = p ∙ back (sym q ∙ h)
 
 module _ (f : List ℕ) (v w : Verdict) (l : LoadsAs layout.source f) (on : OnSource f v) where
   -- Demand 3, for the verdicts on a source file that loads and on its translation.
-  pub chip_sound : OnChip (translation f) w → w.answer ≡ answers 0 → v.answer ≡ answers 0
+  pub chip_sound : OnChip (translation f) w → rule_of w ≡ 0 → rule_of v ≡ 0
   unfolding imm_verdict armv8_verdict
   chip_sound chip-on = allowed_sound _ _ v w on.shown.answer chip-on.shown.answer (soundness f l).allowed_back
 
   -- Slip 6, for the verdicts of IMM and of x86-TSO on a source file that loads.
-  pub tso_sound : OnTso f w → w.answer ≡ answers 0 → v.answer ≡ answers 0
+  pub tso_sound : OnTso f w → rule_of w ≡ 0 → rule_of v ≡ 0
   unfolding imm_verdict tso_verdict
   tso_sound tso-on = allowed_sound _ _ v w on.shown.answer tso-on.shown.answer (tso_soundness f l)
 
 -- The lines of the three verdicts that `of_source` gives.
 pub source_lines : {f text : List ℕ} {v w u : Verdict} → OnSource f v → OnChip (translation f) w → OnTso f u
-    → (w.answer ≡ answers 0 → v.answer ≡ answers 0) → (u.answer ≡ answers 0 → v.answer ≡ answers 0)
+    → (rule_of w ≡ 0 → rule_of v ≡ 0) → (rule_of u ≡ 0 → rule_of v ≡ 0)
     → text ≡ (line_for source v ++ line_for chip w) ++ line_for tso u → SourceLines f text
 source_lines on on_chip on_tso sound also p =
     record { on_source = _; on_chip = _; on_tso = _; judged = on; judged_chip = on_chip; judged_tso = on_tso; sound = sound; tso_sound = also; prints = p }
 
--- What is printed, by what loading answered.
-module _ (Source Chip : List ℕ → List ℕ → Type 0) (f : List ℕ) (a : Load) (is : a ≡ load_of f) where
-  pub refusal_text : (k n : ℕ) (w : Verdict) (text : List ℕ) → a ≡ Refused k → n ≡ number_of a → w.answer ≡ refuses n → w.len ≡ 0 → text ≡ line_for chip w
-      → TextOf Source Chip f text
-  unfolding load_of answer
-  refusal_text k n w text q e says none prints =
-      let number : n ≡ refusal f = e ∙ ap number_of is ∙ load_number f in
+-- A line alone.
+pub alone : {none line text all : List ℕ} → none ≡ [] → all ≡ none ++ line → line ≡ text → all ≡ text
+alone e p q = p ∙ (λ i. e i ++ q i)
+
+-- What is printed where loading is refused.
+module _ (Source Chip : List ℕ → List ℕ → Type 0) {f : List ℕ} {r : Result Header Refusal} (w : Loads f r) where
+  pub refusal_text : {e : Refusal} {n : ℕ} {text : List ℕ} → r ≡ Err e → n ≡ number_of r → text ≡ refusal_line n → TextOf Source Chip f text
+  refusal_text q p prints =
       record {
-        refused = λ m z. prints ∙ ap₂ (line_of chip) (says ∙ ap refuses (number ∙ z)) (ap (λ (j : ℕ). take j w.at) none);
-        on_source = λ l. absurd (not_loaded l.loads);
-        on_chip = λ l. absurd (not_loaded l.loads);
+        refused = λ m z. prints ∙ ap refusal_line (p ∙ w.refused ∙ z);
+        on_source = λ l. absurd (err_not_0 w.refused q l.loads);
+        on_chip = λ l. absurd (err_not_0 w.refused q l.loads);
       }
-    where
-      not_loaded : refusal f ≡ 0 → ⊥
-      not_loaded z =
-          let same : Refused k ≡ Loaded (header_of f) = sym q ∙ is ∙ ap (λ (m : ℕ). answer m (header_of f)) z in
-          let y : ◌≡◌ {A = ℕ} 0 1 = cc in
-          omega arith
 
 -- Of a file that loads, by its side.
 module _ (Source Chip : List ℕ → List ℕ → Type 0) (f text : List ℕ) where

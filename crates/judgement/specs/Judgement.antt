@@ -1,22 +1,18 @@
 -- What is said of a file as a whole: the verdicts and the lines that are printed (01, "What is shown"; 02, slip 6), and the printed page
 -- (02, slip 2).
-use Rattle.std.specs.Prelude.{◌≡◌, List, [], ◌++◌, ℕ, suc}
+use Rattle.std.specs.Prelude.{◌≡◌, List, [], ◌++◌, ℕ, suc, Ok, Err}
 use Rattle.models.specs.Rules.{IMM, ARMv8, TSO}
 use Rattle.layout.specs.Layout as layout
 use Rattle.layout.specs.Decode.{decode}
 use Rattle.recording.specs.Causes.{refusal}
 use Rattle.recording.specs.Load.{LoadsAs}
-use Rattle.verdict.specs.declared.Verdict.{Verdict}
-use Rattle.verdict.specs.declared.Answer.{Answer}
-use Rattle.verdict.specs.declared.Answer.TheVariants.{Refused, Allowed, Broken}
-use Rattle.verdict.specs.Answer.{refuses, answers}
-use Rattle.verdict.specs.Shown.{events}
+use Rattle.verdict.specs.Verdict.{Verdict, rule_of, events}
 use Rattle.execution.specs.OnFile.{OnRecording}
 use Rattle.imm.specs.Judged as imm
 use Rattle.armv8.specs.Judged as armv8
 use Rattle.tso.specs.Judged as tso
 use Rattle.translation.specs.Translation.{translation}
-use Rattle.lines.specs.Lines.{source, chip, line_of}
+use Rattle.lines.specs.Lines.{source, chip, line_of, refusal_line}
 use Rattle.lines.specs.Lines as lines
 use Rattle.printout.specs.Page.{page}
 
@@ -32,12 +28,12 @@ OnTso f v = OnRecording TSO tso.Judged (decode f) v
 
 -- The line of a verdict.
 abbrev pub line_for : List ℕ → Verdict → List ℕ
-line_for word v = line_of word v.answer (events v)
+line_for word v = line_of word (rule_of v) (events v)
 
 -- What a program prints of the file f: "A refusal prints `refused` and its number", without a model's word; of a recording that loads, what it
 -- prints of a source or of a chip recording.
 pub record TextOf (Source Chip : List ℕ → List ℕ → Type 0) (f text : List ℕ) : Type 0 where
-  pub refused : (n : ℕ) → refusal f ≡ suc n → text ≡ line_of chip (refuses (suc n)) []
+  pub refused : (n : ℕ) → refusal f ≡ suc n → text ≡ refusal_line (suc n)
   pub on_source : LoadsAs layout.source f → Source f text
   pub on_chip : LoadsAs layout.chip f → Chip f text
 
@@ -50,8 +46,8 @@ pub record SourceLines (f text : List ℕ) : Type 0 where
   pub judged : OnSource f on_source
   pub judged_chip : OnChip (translation f) on_chip
   pub judged_tso : OnTso f on_tso
-  pub sound : on_chip.answer ≡ answers 0 → on_source.answer ≡ answers 0
-  pub tso_sound : on_tso.answer ≡ answers 0 → on_source.answer ≡ answers 0
+  pub sound : rule_of on_chip ≡ 0 → rule_of on_source ≡ 0
+  pub tso_sound : rule_of on_tso ≡ 0 → rule_of on_source ≡ 0
   pub prints : text ≡ (line_for source on_source ++ line_for chip on_chip) ++ line_for lines.tso on_tso
 
 -- "kind 2 a chip line"
@@ -65,13 +61,9 @@ abbrev pub Prints : List ℕ → List ℕ → Type 0
 Prints = TextOf SourceLines ChipLine
 
 -- The ring of the page that is printed: "the events of a broken IMM (source) or ARMv8 (chip) verdict, empty if allowed".
-unfoldable pub ring_shown : Answer → List ℕ → List ℕ
-ring_shown (Refused k) shown = []
-ring_shown Allowed shown = []
-ring_shown (Broken k) shown = shown
-
 abbrev pub ring_of : Verdict → List ℕ
-ring_of v = ring_shown v.answer (events v)
+ring_of (Ok all) = []
+ring_of (Err broken) = broken.events.items
 
 -- The text is the page of the file f with the ring of a verdict on it.
 pub record OwnPage (On : List ℕ → Verdict → Type 0) (f text : List ℕ) : Type 0 where

@@ -53,6 +53,7 @@ module _ (s : Side) (M : Model) (Judged : Base → Verdict → Type 0)
   -- A call's answer by the file's cause and verdict, where the output has 64 bytes.
   answer_of_lem : (f out : List ℕ) (r : ℕ) (left : List ℕ) → 64 ≤ length out → Reports s M Judged f out r left
       → (n : ℕ) × (r ≡ coded (cause_for s f) (named (cause_for s f) (verdict nodes (base nodes (decode f)) M)) n)
+  unfolding named
   answer_of_lem f out r left room w = go w.verdict w.on_file w.reported
     where
       number_named : ℕ → ℕ
@@ -60,25 +61,22 @@ module _ (s : Side) (M : Model) (Judged : Base → Verdict → Type 0)
 
       go : (v : Result Verdict Refusal) → OnFile s M Judged f v → Reported v out r left
           → (n : ℕ) × (r ≡ coded (cause_for s f) (number_named (cause_for s f)) n)
-      unfolding named
       go (Ok v) on told =
           let shown = on.judged.shown in
-          let fits : length (events v) ≤ length out = omega (arith, few _ v shown) in
-          (
+          let fits : length (events v) ≤ length out = omega (arith, few _ v shown) in (
             length (events v),
             told.answer
-            ∙ answer_written (rule_of v) (events v) out fits
-            ∙ ap (λ (n : ℕ). coded 0 n (length (events v))) (says _ v shown)
-            ∙ ap (λ (k : ℕ). coded k (number_named k) (length (events v))) on.refused,
+                ∙ answer_written (rule_of v) (events v) out fits
+                ∙ ap (λ (n : ℕ). coded 0 n (length (events v))) (says _ v shown)
+                ∙ ap (λ (k : ℕ). coded k (number_named k) (length (events v))) on.refused,
           )
-      go (Err e) on told =
-          (
-            0,
-            told.answer
+      go (Err e) on told = (
+        0,
+        told.answer
             ∙ ap (λ (k : ℕ). coded_for 0 k 0) (sym (fills_refused (number e) [] out e refl).refused)
             ∙ answer_refused (number e) _ (number_not_0 e)
             ∙ ap (λ (k : ℕ). coded k (number_named k) 0) on.refused,
-          )
+      )
 
   pub call_agrees : CallAgrees s M Judged
   unfolding contents other_side

@@ -9,7 +9,5 @@ fn main(rt: HostRuntime) -> Result<()> {
     let mut start = [0u8; INPUT];
     let n = console::read(&mut rt.stdin(), &mut start)?;
     let page = judgement::page::of_input(start, n);
-    let at = page.at;
-    let len = page.len;
-    console::write(&mut rt.stdout(), &at[..len])
+    console::write(&mut rt.stdout(), page.as_slice())
 }

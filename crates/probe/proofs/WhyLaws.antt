@@ -1,152 +1,121 @@
--- Laws of the steps of a ring as bytes, three a step.
+-- Laws of the verdict and of its steps as answers, and of the models by number.
 use mathlib.Core.Path.{◌≡◌, refl, sym, ap, subst, ◌∙◌}
-use mathlib.Core.List.{List, [], ◌∷◌, ◌++◌, append_assoc}
-use Prim.Native.Nat.{ℕ, zero, suc, ◌+◌, ◌*◌, ◌<◌, ◌≤◌}
-use native.Mathlib.Numerals.{add-one}
+use mathlib.Core.List.{List, []}
+use Prim.Native.Nat.{ℕ, zero, suc}
 use native.Mathlib.Omega.{arith}
-use lib.ListN.{length, get_or, take, set, length-set}
-use lib.Seq.{take-suc, take-suc-set}
+use Rattle.std.specs.Prelude.{Result, Ok, Err, IfOk, Option, Some, None}
 use Rattle.models.specs.Graph.{Base}
-use Rattle.models.specs.Rules.{Model, IMM, ARMv8, TSO}
-use Rattle.models.specs.Why.{Clauses, clauses_of, imm_rings, armv8_rings, tso_rings}
-use Rattle.layout.specs.Layout.{Side, source, chip}
+use Rattle.models.specs.Rules.{Model}
+use Rattle.models.specs.Why.{Clauses, clauses_of}
+use Rattle.layout.specs.Layout.{Side}
 use Rattle.layout.specs.Decode.{decode}
 use Rattle.recording.specs.Causes.{refusal}
-use Rattle.recording.specs.Load.{cause_for}
-use Rattle.recording.proofs.CauseLaws.{cause_own}
-use Rattle.verdict.specs.declared.Verdict.{Verdict}
-use Rattle.verdict.specs.Answer.{refuses, answers, refusal_of, rule_of}
+use Rattle.recording.specs.Load.{Loads, LoadsAs, cause_for}
+use Rattle.recording.specs.declared.Header.{Header}
+use Rattle.recording.proofs.CauseLaws.{cause_goes_on}
+use Rattle.refusal.specs.Refusal.{number, number_of}
+use Rattle.refusal.specs.declared.Refusal.{Refusal}
+use Rattle.refusal.specs.declared.Refusal.TheVariants.{OtherSide}
+use Rattle.refusal.proofs.RefusalLaws.{number_not_0, ok_number, err_number}
+use Rattle.verdict.specs.Verdict.{Verdict, rule_of, events}
 use Rattle.clause.specs.Steps.{ring, Explained}
-use Rattle.execution.specs.OnFile.{OnRecording}
-use Rattle.execution.proofs.BaseOf.{on_refused, on_loaded}
-use Rattle.imm.specs.Judged as imm
-use Rattle.armv8.specs.Judged as armv8
-use Rattle.tso.specs.Judged as tso
-use Rattle.output.specs.Output.{Fills}
-use Rattle.output.specs.declared.Filled.{Filled}
-use Rattle.output.proofs.FillLaws.{fills_refused}
-use Rattle.probe.specs.Calls.{coded, coded_answer, Stored, bytes_of, Explains, cause_for_none, Why}
-use Rattle.probe.proofs.ProbeLaws.{stored}
+use Rattle.execution.specs.OnFile.{OnRecording, OnFile}
+use Rattle.lines.specs.declared.Model as lines
+use Rattle.lines.specs.declared.Model.TheVariants.{Source, Chip, Tso}
+use Rattle.verdicts.specs.ByModel.{side_for, model_for, clauses_for, JudgedFor}
+use Rattle.probe.specs.Calls.{coded, Stored, Reported, bytes_of, Explains, cause_for_none, number_for, ModelOf, Why}
+use Rattle.probe.proofs.ProbeLaws.{stored_refused}
 
-three : List ℕ → List ℕ
-three s = get_or s 0 0 ∷ get_or s 1 0 ∷ get_or s 2 0 ∷ []
+-- What is stored, by equal bytes and rules.
+stored_as : {rule n r : ℕ} {bytes wanted out left : List ℕ} → rule ≡ n → bytes ≡ wanted → Stored 0 rule bytes out r left → Stored 0 n wanted out r left
+stored_as {r = r} {out = out} {left} e p w = subst (λ (l : List ℕ). Stored 0 _ l out r left) p (subst (λ (j : ℕ). Stored 0 j _ out r left) e w)
 
-bytes_last : (ss : List (List ℕ)) (s : List ℕ) → bytes_of (ss ++ (s ∷ [])) ≡ bytes_of ss ++ three s
-unfolding three
-bytes_last [] s = refl
-bytes_last (t ∷ ss) s = ap (λ (l : List ℕ). get_or t 0 0 ∷ get_or t 1 0 ∷ get_or t 2 0 ∷ l) (bytes_last ss s)
+alone : {k n r : ℕ} → n ≡ k → r ≡ coded n 0 0 → r ≡ coded k 0 0
+alone p a = a ∙ ap (λ (j : ℕ). coded j 0 0) p
 
--- A store behind the first m, which are l.
-stored_next : (at l : List ℕ) (m a : ℕ) → m < length at → take m at ≡ l → take (m + 1) (set at m a) ≡ l ++ (a ∷ [])
-stored_next at l m a h e = ap (λ (j : ℕ). take j (set at m a)) (add-one m) ∙ take-suc-set at m a h ∙ ap (λ (k : List ℕ). k ++ (a ∷ [])) e
+-- The answer of a verdict.
+pub reported_ok : {a : Result Verdict Refusal} {v : Verdict} {rule r : ℕ} {bytes out left : List ℕ} → a ≡ Ok v → rule ≡ rule_of v → bytes ≡ events v
+    → Stored 0 rule bytes out r left → Reported a out r left
+reported_ok {r = r} {out = out} {left} is e p w = subst (λ (a : Result Verdict Refusal). Reported a out r left) (sym is) (stored_as e p w)
 
--- The first k steps are written.
-module _ (steps : List (List ℕ)) where
-  pub record Flat (k : ℕ) (at : List ℕ) : Type 0 where
-    pub long : length at ≡ 192
-    pub bytes : take (3 * k) at ≡ bytes_of (take k steps)
+pub reported_err : {a : Result Verdict Refusal} {e : Refusal} {n r : ℕ} {out : List ℕ} → a ≡ Err e → n ≡ number e → r ≡ coded n 0 0 → Reported a out r out
+reported_err {e = e} {r = r} {out} is p q =
+    subst (λ (a : Result Verdict Refusal). Reported a out r out) (sym is) (stored_refused e refl (alone p q))
 
-  pub flat_none : (at : List ℕ) → length at ≡ 192 → Flat 0 at
-  flat_none at l = record { long = l; bytes = refl }
+-- The answer of a model.
+module _ {s : Side} {M : Model} {Judged : Base → Verdict → Type 0} {f : List ℕ} {a : Result Verdict Refusal} (on : OnFile s M Judged f a) where
+  pub on_file_loads : {v : Verdict} → a ≡ Ok v → LoadsAs s f × OnRecording M Judged (decode f) v
+  on_file_loads is =
+      (cause_goes_on s f (ok_number on.refused is), subst (λ (b : Result Verdict Refusal). IfOk b (λ v. OnRecording M Judged (decode f) v)) is on.judged)
 
-  pub flat_more : (k : ℕ) (at : List ℕ) → Flat k at → k < 64 → length steps ≡ 64
-      → let s = get_or steps k [] in Flat (k + 1) (set (set (set at (3 * k) (get_or s 0 0)) (3 * k + 1) (get_or s 1 0)) (3 * k + 2) (get_or s 2 0))
-  unfolding three
-  flat_more k at w h rows =
-      let s = get_or steps k [] in
-      let a = get_or s 0 0 in
-      let b = get_or s 1 0 in
-      let c = get_or s 2 0 in
-      let before = bytes_of (take k steps) in
-      let at₁ = set at (3 * k) a in
-      let at₂ = set at₁ (3 * k + 1) b in
-      let long₁ : length at₁ ≡ 192 = length-set at (3 * k) a ∙ w.long in
-      let long₂ : length at₂ ≡ 192 = length-set at₁ (3 * k + 1) b ∙ long₁ in
-      let one = stored_next at before (3 * k) a (omega (arith, w.long)) w.bytes in
-      let two = stored_next at₁ (before ++ (a ∷ [])) (3 * k + 1) b (omega (arith, long₁)) one in
-      let second : 3 * k + 2 ≡ 3 * k + 1 + 1 = omega arith in
-      let two-places = ap (λ (j : ℕ). take j at₂) second ∙ two in
-      let all = stored_next at₂ ((before ++ (a ∷ [])) ++ (b ∷ [])) (3 * k + 2) c (omega (arith, long₂)) two-places in
-      let places : 3 * (k + 1) ≡ 3 * k + 2 + 1 = omega arith in
+  pub explains_refused : {C : Clauses} {e : Refusal} {n r : ℕ} {out : List ℕ} → a ≡ Err e → n ≡ number_of a → r ≡ coded n 0 0 → Explains s M C Judged f out r out
+  explains_refused {e = e} is p q =
       record {
-        long = length-set at₂ (3 * k + 2) c ∙ long₂;
-        bytes = ap (λ (j : ℕ). take j (set at₂ (3 * k + 2) c)) places
-            ∙ all
-            ∙ ap (λ (l : List ℕ). l ++ (c ∷ [])) (append_assoc before (a ∷ []) (b ∷ []))
-            ∙ append_assoc before (a ∷ b ∷ []) (c ∷ [])
-            ∙ sym (bytes_last (take k steps) s)
-            ∙ ap bytes_of (sym (take-suc steps k [] (omega (arith, rows))) ∙ ap (λ (j : ℕ). take j steps) (sym (add-one k)));
+        verdict = Err e;
+        on_file = subst (OnFile s M Judged f) is on;
+        explained = tt;
+        refused = stored_refused e refl (alone (p ∙ ap number_of is) q);
       }
 
-  pub flat_all : (n k : ℕ) (at : List ℕ) → Flat k at → k ≤ n → n ≤ k → take (3 * n) at ≡ bytes_of (take n steps)
-  flat_all n k at w g h = (let same : k ≡ n = omega arith in subst (λ (j : ℕ). take (3 * j) at ≡ bytes_of (take j steps)) same w.bytes)
+  pub explains_loaded : {C : Clauses} {v : Verdict} {steps : List (List ℕ)} {rule r : ℕ} {bytes out left : List ℕ} → a ≡ Ok v
+      → Explained (clauses_of C (rule_of v)) (decode f) (ring v) steps → rule ≡ rule_of v → bytes ≡ bytes_of steps → Stored 0 rule bytes out r left
+      → Explains s M C Judged f out r left
+  explains_loaded {v = v} {steps} is w e p stored =
+      record {
+        verdict = Ok v;
+        on_file = subst (OnFile s M Judged f) is on;
+        explained = record { steps = steps; explained = w; stored = stored_as e p stored };
+        refused = tt;
+      }
 
 -- No model is meant: the number that loading gives, else 11.
-module _ (f out : List ℕ) (k r : ℕ) (loading : k ≡ refusal f) where
-  pub none_refused : (k ≡ 0 → ⊥) → r ≡ coded k 0 0 → Stored (cause_for_none f) 0 [] out r out
-  unfolding coded_answer cause_for_none
-  none_refused d a = stored _ _ _ _ _ _ _ (fills_refused _ [] out k (go (refusal f) loading) d) a
+module _ {f : List ℕ} {a : Result Header Refusal} (w : Loads f a) where
+  pub none_loads : {h : Header} → a ≡ Ok h → {n r : ℕ} → n ≡ 11 → r ≡ coded n 0 0 → (out : List ℕ) → Stored (cause_for_none f) 0 [] out r out
+  unfolding cause_for_none
+  none_loads is p q out =
+      let cause : 11 ≡ cause_for_none f = rw (ok_number w.refused is, cause_for_none) refl in
+      stored_refused OtherSide cause (alone (p ∙ cause) q)
+
+  pub none_refused : {e : Refusal} → a ≡ Err e → {n r : ℕ} → n ≡ number e → r ≡ coded n 0 0 → (out : List ℕ) → Stored (cause_for_none f) 0 [] out r out
+  unfolding cause_for_none
+  none_refused {e} is p q out =
+      let cause = go (refusal f) (sym (err_number w.refused is)) in
+      stored_refused e cause (alone (p ∙ cause) q)
     where
-      go : (n : ℕ) → k ≡ n → k ≡ elim n as (λ _. ℕ) [ zero ↦ 11 | suc m ↦ suc m ]
-      go zero e = absurd (d e)
-      go (suc n) e = e
+      go : (n : ℕ) → number e ≡ n → number e ≡ elim n as (λ _. ℕ) [ zero ↦ 11 | suc m ↦ suc m ]
+      go zero p = absurd (number_not_0 e p)
+      go (suc n) p = p
 
-  pub none_loads : k ≡ 0 → r ≡ coded 11 0 0 → Stored (cause_for_none f) 0 [] out r out
-  unfolding coded_answer cause_for_none
-  none_loads z a = stored _ _ _ _ _ _ _ (fills_refused _ [] out 11 (rw (sym loading ∙ z, cause_for_none) refl) (λ e. omega arith)) a
+-- The models by number.
+pub known_model : (n : ℕ) (m : lines.Model) → number_for m ≡ n → ModelOf n (Some m)
+known_model n m e = record { known = e; unknown = tt }
 
--- The answer of a model: refused, or the steps.
-module _ (s : Side) (M : Model) (C : Clauses) (Judged : Base → Verdict → Type 0) (f out : List ℕ) (k r : ℕ) (cause : k ≡ cause_for s f) where
-  pub explains_refused : (k ≡ 0 → ⊥) → r ≡ coded k 0 0 → Explains s M C Judged f out r out
-  unfolding coded_answer refusal_of
-  explains_refused d a =
-      record {
-        verdict = none;
-        on_file = on_refused M Judged f none s k cause d refl refl;
-        steps = [];
-        explained = λ l. absurd (d (cause ∙ cause_own s f l));
-        stored = stored _ _ _ _ _ _ _ (fills_refused _ [] out k refl d) a;
-      }
-    where
-      none : Verdict
-      none = record { answer = refuses k; at = []; len = 0 }
-
-  pub explains_loaded : k ≡ 0 → (left : List ℕ) (v : Verdict) → OnRecording M Judged (decode f) v → (steps : List (List ℕ))
-      → Explained (clauses_of C (rule_of v.answer)) (decode f) (ring v) steps → Stored 0 (rule_of v.answer) (bytes_of steps) out r left
-      → Explains s M C Judged f out r left
-  unfolding refusal_of
-  explains_loaded z left v on steps e w =
-      record {
-        verdict = v;
-        on_file = on_loaded M Judged f v s k cause z on;
-        steps = steps;
-        explained = λ l. e;
-        stored = subst (λ (j : ℕ). Stored j (rule_of v.answer) (bytes_of steps) out r left) (sym (ap refusal_of on.answer ∙ no_refusal on.number)) w;
-      }
-    where
-      no_refusal : (n : ℕ) → refusal_of (answers n) ≡ 0
-      no_refusal zero = refl
-      no_refusal (suc n) = refl
-
--- Bytes and a rule's number that are equal to those that are asked for.
-pub stored_as : (rule number : ℕ) (bytes wanted out : List ℕ) (filled : Filled) (r : ℕ) (left : List ℕ) → rule ≡ number → bytes ≡ wanted
-    → Fills 0 bytes out filled left → r ≡ coded_answer rule filled → Stored 0 number wanted out r left
-stored_as rule number bytes wanted out filled r left e b w a =
-    stored 0 number wanted out filled r left (subst (λ (l : List ℕ). Fills 0 l out filled left) b w) (a ∙ ap (λ (k : ℕ). coded_answer k filled) e)
+pub no_model : (n : ℕ) → (n ≡ 1 → ⊥) → (n ≡ 2 → ⊥) → (n ≡ 3 → ⊥) → ModelOf n None
+no_model n b c d = record { known = tt; unknown = go }
+  where
+    go : (m : lines.Model) → number_for m ≡ n → ⊥
+    go Source e = b (sym e)
+    go Chip e = c (sym e)
+    go Tso e = d (sym e)
 
 -- The answer by the number of the model.
-module _ (model : ℕ) (f out : List ℕ) (r : ℕ) (left : List ℕ) where
-  pub why_imm : model ≡ 1 → Explains source IMM imm_rings imm.Judged f out r left → Why model f out r left
-  why_imm e w =
-      record { imm = λ h. w; armv8 = λ h. absurd (omega (arith, e, h)); tso = λ h. absurd (omega (arith, e, h)); other = λ b. absurd (b e) }
+module _ {n : ℕ} {o : Option lines.Model} (of : ModelOf n o) {f out left : List ℕ} {r : ℕ} where
+  pub why_model : (m : lines.Model) → o ≡ Some m → Explains (side_for m) (model_for m) (clauses_for m) (JudgedFor m) f out r left → Why n f out r left
+  why_model m is w = go m (subst (ModelOf n) is of).known w
+    where
+      go : (m : lines.Model) → number_for m ≡ n → Explains (side_for m) (model_for m) (clauses_for m) (JudgedFor m) f out r left → Why n f out r left
+      go Source e w =
+          record { imm = λ h. w; armv8 = λ h. absurd (omega (arith, e, h)); tso = λ h. absurd (omega (arith, e, h)); other = λ b c d. absurd (b (sym e)) }
+      go Chip e w =
+          record { imm = λ h. absurd (omega (arith, e, h)); armv8 = λ h. w; tso = λ h. absurd (omega (arith, e, h)); other = λ b c d. absurd (c (sym e)) }
+      go Tso e w =
+          record { imm = λ h. absurd (omega (arith, e, h)); armv8 = λ h. absurd (omega (arith, e, h)); tso = λ h. w; other = λ b c d. absurd (d (sym e)) }
 
-  pub why_armv8 : model ≡ 2 → Explains chip ARMv8 armv8_rings armv8.Judged f out r left → Why model f out r left
-  why_armv8 e w =
-      record { imm = λ h. absurd (omega (arith, e, h)); armv8 = λ h. w; tso = λ h. absurd (omega (arith, e, h)); other = λ b c. absurd (c e) }
-
-  pub why_tso : model ≡ 3 → Explains source TSO tso_rings tso.Judged f out r left → Why model f out r left
-  why_tso e w =
-      record { imm = λ h. absurd (omega (arith, e, h)); armv8 = λ h. absurd (omega (arith, e, h)); tso = λ h. w; other = λ b c d. absurd (d e) }
-
-  pub why_other : (model ≡ 1 → ⊥) → (model ≡ 2 → ⊥) → (model ≡ 3 → ⊥) → Stored (cause_for_none f) 0 [] out r left → Why model f out r left
-  why_other b c d w = record { imm = λ h. absurd (b h); armv8 = λ h. absurd (c h); tso = λ h. absurd (d h); other = λ x y z. w }
+  pub why_none : o ≡ None → Stored (cause_for_none f) 0 [] out r left → Why n f out r left
+  why_none is w =
+      let none = (subst (ModelOf n) is of).unknown in record {
+        imm = λ h. absurd (none Source (sym h));
+        armv8 = λ h. absurd (none Chip (sym h));
+        tso = λ h. absurd (none Tso (sym h));
+        other = λ b c d. w;
+      }

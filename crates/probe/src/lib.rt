@@ -5,7 +5,7 @@
 
 mod why;
 
-ghost use Rattle.std.specs.Prelude.{◌≡◌, [], ◌∷◌, ℕ, ◌≤◌};
+ghost use Rattle.std.specs.Prelude.{◌≡◌, List, ℕ, ◌≤◌, IfOk};
 ghost use Rattle.layout.specs.Layout.{source, chip};
 ghost use Rattle.recording.specs.Causes.{refusal};
 ghost use Rattle.recording.specs.Load.{cause_for};
@@ -13,17 +13,16 @@ ghost use Rattle.models.specs.Rules.{IMM, ARMv8, TSO};
 ghost use Rattle.imm.specs.Judged as imm;
 ghost use Rattle.armv8.specs.Judged as armv8;
 ghost use Rattle.tso.specs.Judged as tso;
-ghost use Rattle.verdict.specs.Answer.{refusal_of, rule_of};
-ghost use Rattle.output.specs.declared.Filled.TheVariants.{Written};
+ghost use Rattle.output.specs.Output.{Fills};
 ghost use Rattle.translation.specs.Translation.{translation};
 ghost use Rattle.printout.specs.Page.{page};
 ghost use Rattle.verdicts.specs.ByModel.{side_for, model_for, JudgedFor};
-ghost use Rattle.probe.specs.Calls.{coded, coded_answer, Stored, Reported, Reports, Printed, Why};
+ghost use Rattle.probe.specs.Calls.{coded, Stored, Reported, Reports, Printed, ModelOf, Why};
 
 use lines::Model;
-use output::Filled;
 use recording::causes;
-use verdict::{Answer, Verdict};
+use refusal::Refusal;
+use verdict::{Broken, Verdict};
 
 // An answer: the number of the refusal, that of the broken rule, and how many bytes were written.
 fn coded(cause: u8, rule: u8, written: usize) -> u64
@@ -38,51 +37,38 @@ fn coded(cause: u8, rule: u8, written: usize) -> u64
 pub extern "C" fn probe_load(file: &[u8]) -> u64
     ensures { result ≡ coded (refusal file.now) 0 0 }
 {
-    coded(causes::number(causes::load(file)), 0, 0)
+    coded(refusal::number_of(&causes::load(file)), 0, 0)
 }
 
 // The answer of a call that fills an output: its refusal, or the number of the broken rule and the length written.
-fn answered(rule: u8, filled: Filled) -> u64
-    requires { (n : ℕ) → filled ≡ Written n → n ≤ 1458 }
-    ensures { result ≡ coded_answer rule filled }
+fn answered(rule: u8, filled: Result<usize, Refusal>) -> u64
+    requires { IfOk filled (λ n. n ≤ 1458) }
+    ensures { (k : ℕ) (bytes out left : List ℕ) → Fills k bytes out filled left → Stored k rule bytes out result left }
 {
     match filled {
-        Filled::Refused(k) => coded(k, 0, 0),
-        Filled::Written(n) => coded(0, rule, n),
-    }
-}
-
-// The numbers of a verdict's answer: of the cause that refused, and of the broken rule; 0 where there is none.
-fn numbers(answer: Answer) -> [u8; 2]
-    ensures { result ≡ refusal_of answer ∷ rule_of answer ∷ [] }
-{
-    match answer {
-        Answer::Refused(k) => [k, 0],
-        Answer::Allowed => [0, 0],
-        Answer::Broken(rule) => [0, rule],
+        Ok(n) => coded(0, rule, n),
+        Err(refusal) => coded(refusal.number(), 0, 0),
     }
 }
 
 // Puts the events that a verdict shows at the start of the output; a refusal is answered by its number.
-fn reported(v: Verdict, out: &mut [u8]) -> u64
-    requires { v.len ≤ 64 }
-    ensures { Reported v out.old result out.new }
+fn reported(verdict: &Result<Verdict, Refusal>, out: &mut [u8]) -> u64
+    ensures { Reported verdict.now out.old result out.new }
 {
-    let answer = v.answer;
-    let number = numbers(answer);
-    if number[0] != 0 {
-        return coded(number[0], 0, 0);
+    match verdict {
+        Ok(Ok(events)) => answered(0, output::fill(out, events.as_slice())),
+        Ok(Err(Broken { rule, events })) => {
+            answered(rule.number(), output::fill(out, events.as_slice()))
+        }
+        Err(cause) => coded(cause.number(), 0, 0),
     }
-    let at = v.at;
-    let n = v.len;
-    answered(number[1], output::fill(out, &at[..n]))
 }
 
 // Puts the events that the verdict of a model on a file shows at the start of the output.
 fn judged(model: Model, file: &[u8], out: &mut [u8]) -> u64
     ensures { Reports (side_for model) (model_for model) (JudgedFor model) file.now out.old result out.new }
 {
-    reported(verdicts::verdict(model, file), out)
+    reported(&verdicts::verdict(model, file), out)
 }
 
 // The IMM verdict on a source file; the events that are shown of it, at most 64, fill the output's start. Refused with a number, 1 to 13,
@@ -138,9 +124,19 @@ pub extern "C" fn probe_judge(file: &[u8], out: &mut [u8]) -> u64
     ensures { Printed file.now out.old result out.new }
 {
     let lines = judgement::printed(file);
-    let at = lines.at;
-    let n = lines.len;
-    answered(0, output::fill(out, &at[..n]))
+    answered(0, output::fill(out, lines.as_slice()))
+}
+
+// The model of a number: 1 IMM, 2 ARMv8, 3 x86-TSO.
+fn model_of(number: u64) -> Option<Model>
+    ensures { ModelOf number result }
+{
+    match number {
+        1 => Some(Model::Source),
+        2 => Some(Model::Chip),
+        3 => Some(Model::Tso),
+        _ => None,
+    }
 }
 
 // The clause behind each step of the ring that the verdict of a model shows, 1 IMM, 2 ARMv8, 3 x86-TSO: at most 192 bytes. Refused with a
@@ -149,14 +145,8 @@ pub extern "C" fn probe_judge(file: &[u8], out: &mut [u8]) -> u64
 pub extern "C" fn probe_why(file: &[u8], model: u64, out: &mut [u8]) -> u64
     ensures { Why model file.now out.old result out.new }
 {
-    if model == 1 {
-        return why::of_model(Model::Source, file, out);
+    match model_of(model) {
+        Some(model) => why::of_model(model, file, out),
+        None => why::of_none(file),
     }
-    if model == 2 {
-        return why::of_model(Model::Chip, file, out);
-    }
-    if model == 3 {
-        return why::of_model(Model::Tso, file, out);
-    }
-    why::of_none(file, out)
 }

@@ -4,8 +4,6 @@
 #![tactic(auto)]
 
 use anyhow::Result;
-use lines::Model;
-use output::Filled;
 use recording::INPUT;
 
 fn main(rt: HostRuntime) -> Result<()> {
@@ -13,12 +11,7 @@ fn main(rt: HostRuntime) -> Result<()> {
     let n = console::read(&mut rt.stdin(), &mut start)?;
     let mut bytes = [0u8; 1320];
     match translation::of_input(start, n, &mut bytes) {
-        Filled::Refused(k) => {
-            console::print(
-                &mut rt.stderr(),
-                lines::line(Model::Chip, verdict::refused(k)),
-            )
-        }
-        Filled::Written(m) => console::write(&mut rt.stdout(), &bytes[..m]),
+        Err(refusal) => console::print(&mut rt.stderr(), &lines::refused(refusal.number())),
+        Ok(m) => console::write(&mut rt.stdout(), &bytes[..m]),
     }
 }

@@ -58,13 +58,5 @@ pub fn clauses(b: &Base, fr: Grid) -> [Grid; 7]
 {
     let ppo = ppo(b);
     let fenced = fenced(b);
-    [
-        ppo[0],
-        ppo[1],
-        fenced[0],
-        fenced[1],
-        b.rfe(),
-        b.co,
-        fr,
-    ]
+    [ppo[0], ppo[1], fenced[0], fenced[1], b.rfe(), b.co, fr]
 }

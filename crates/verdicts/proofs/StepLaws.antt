@@ -4,7 +4,7 @@ use mathlib.Core.List.{List, []}
 use Prim.Native.Nat.{ℕ}
 use Rattle.relation.specs.Rel.{nodes}
 use Rattle.models.specs.Graph.{base}
-use Rattle.models.specs.Why.{Clauses, clauses_of}
+use Rattle.models.specs.Why.{clauses_of}
 use Rattle.layout.specs.Decode.{decode}
 use Rattle.layout.specs.Layout.{Side}
 use Rattle.recording.specs.Load.{LoadsAs}

@@ -9,7 +9,5 @@ fn main(rt: HostRuntime) -> Result<()> {
     let mut start = [0u8; INPUT];
     let n = console::read(&mut rt.stdin(), &mut start)?;
     let text = explanation::of_input(start, n);
-    let at = text.at;
-    let len = text.len;
-    console::write(&mut rt.stdout(), &at[..len])
+    console::write(&mut rt.stdout(), text.as_slice())
 }

@@ -5,61 +5,11 @@ use Rattle.relation.specs.Rel.{union}
 use Rattle.models.specs.Graph.{base}
 use Rattle.models.specs.Recording.{event, acquire_fence, release_fence, R, W, F, Racq, Rex, Wrel, Wstrong, Facq, Frel, Fsc, Fld, Fsy, Fisb}
 use Rattle.layout.specs.Decode.{decode}
-use Rattle.recording.proofs.Accepted.{sized, threads_sound_lem}
-use Rattle.recording.proofs.Loaded.{loaded_readable, loaded_located}
-use Rattle.reading.proofs.SortLaws.{all_recorded, class_recorded, sorted_class, sorted_writes, sorted_mode, sorted_flag, union_three}
+use Rattle.recording.proofs.Accepted.{sized}
+use Rattle.reading.proofs.SortLaws.{sorted_class, sorted_writes, sorted_mode, sorted_flag, union_three}
 use Rattle.execution.proofs.BaseOf.{links_of}
 use borrow.Author.Rules.{rules}
 use Rattle.execution.proofs.base.Goals as goal
-
-pub sorted-reads-requires : goal.sorted-reads-requires
-sorted-reads-requires c =
-    (sized _ c.requires, search rules, class_recorded _ _ c.recorded-recorded.ensures _ c.sorted-classes.ensures 1 (search rules))
-
-pub sorted-exclusive-requires : goal.sorted-exclusive-requires
-sorted-exclusive-requires c =
-    (sized _ c.requires, search rules, class_recorded _ _ c.recorded-recorded.ensures _ c.sorted-classes.ensures 1 (search rules))
-
-pub sorted-writes-requires : goal.sorted-writes-requires
-sorted-writes-requires c =
-    (sized _ c.requires, search rules, class_recorded _ _ c.recorded-recorded.ensures _ c.sorted-classes.ensures 2 (search rules))
-
-pub sorted-strong-requires : goal.sorted-strong-requires
-sorted-strong-requires c =
-    (sized _ c.requires, search rules, class_recorded _ _ c.recorded-recorded.ensures _ c.sorted-classes.ensures 2 (search rules))
-
-pub sorted-fences-requires : goal.sorted-fences-requires
-sorted-fences-requires c =
-    (sized _ c.requires, search rules, class_recorded _ _ c.recorded-recorded.ensures _ c.sorted-classes.ensures 3 (search rules))
-
-pub initial-initial-requires : goal.initial-initial-requires
-initial-initial-requires c = search (rules, sized)
-
-pub recorded-recorded-requires : goal.recorded-recorded-requires
-recorded-recorded-requires c = search (rules, sized)
-
-pub sorted-classes-requires : goal.sorted-classes-requires
-sorted-classes-requires c = search (rules, sized, all_recorded)
-
-pub coherence-requires : goal.coherence-requires
-coherence-requires c = (
-  sized _ c.requires,
-  links_of c.rows_by_type-rows.ensures 2 (omega arith) (omega arith) c.inverse-2.ensures,
-  c.same_location-loc.ensures,
-)
-
-pub control-requires : goal.control-requires
-control-requires c =
-    (c.requires, c.program_order-po.ensures, links_of c.rows_by_type-rows.ensures 6 (omega arith) (omega arith) c.inverse-6.ensures)
-
-pub same_location-loc-requires : goal.same_location-loc-requires
-same_location-loc-requires c = search (rules, sized, loaded_located)
-
-pub program_order-po-requires : goal.program_order-po-requires
-program_order-po-requires c = search (rules, sized, threads_sound_lem)
-
-pub rows_by_type-rows-requires : goal.rows_by_type-rows-requires
-rows_by_type-rows-requires c = search (rules, loaded_readable)
 
 pub returns-clause-sets : goal.returns-clause-sets
 unfolding event decode union acquire_fence release_fence

@@ -3,16 +3,8 @@ use mathlib.Core.Path.{ap₂, ◌∙◌}
 use Rattle.relation.specs.Rel.{union}
 use Rattle.models.specs.Recording.{event}
 use Rattle.layout.specs.Decode.{decode}
-use Rattle.recording.proofs.Accepted.{sized}
-use borrow.Author.Rules.{rules}
 use Rattle.execution.proofs.events.Goals as goal
 
 pub returns : goal.returns
 unfolding event union decode
 returns c = c.or.ensures ∙ ap₂ union c.initial.ensures c.recorded.ensures
-
-pub initial-requires : goal.initial-requires
-initial-requires c = search (rules, sized)
-
-pub recorded-requires : goal.recorded-requires
-recorded-requires c = search (rules, sized)

@@ -5,8 +5,7 @@ use borrow.Author.Rules.{rules}
 use Rattle.explanation.proofs.of_input.Goals as goal
 
 pub returns : goal.returns
-returns c =
-    record { prints = input_text _ _ c.args.start _ c.args.n (search rules) c.printed.ensures.prints; bounded = c.printed.ensures.bounded }
+returns c = input_text _ _ c.args.start _ c.args.n (search rules) c.printed.ensures
 
 pub slice_bounds-printed-end : goal.slice_bounds-printed-end
 slice_bounds-printed-end c = first_size _ c.requires (search rules)

@@ -1,42 +1,32 @@
 -- `printed` meets its contract: by what loading answers, and by the side.
-use mathlib.Core.Path.{◌∙◌}
+use mathlib.Core.Path.{ap}
 use native.Mathlib.Omega.{arith}
+use lib.ListN.{length}
 use Rattle.recording.proofs.CauseLaws.{loaded_side}
-use Rattle.judgement.proofs.PrintLaws.{refusal_text, source_text, chip_text}
-use Rattle.explanation.proofs.WhyLaws.{behind_none}
+use Rattle.judgement.proofs.PrintLaws.{refusal_text, source_text, chip_text, alone}
+use Rattle.explanation.proofs.WhyLaws.{reasoned_alone}
 use Rattle.explanation.proofs.printed.Goals as goal
 
 pub returns-in_default : goal.returns-in_default
 returns-in_default c =
-    record {
-      prints = refusal_text _ _ _ _ c.load-answer.ensures _ _ _ _ c.in_default.is c.number.ensures c.refused.ensures.0 c.refused.ensures.1
-          (behind_none c.empty.result c.empty.ensures c.added.ensures.text ∙ c.line.ensures.line);
-      bounded = omega (arith, c.empty.ensures, c.added.ensures.size, c.line.ensures.bounded);
-    }
+    refusal_text _ _ c.load-loaded.ensures c.in_default.is c.number_of.ensures (alone c.new-text.ensures c.add.ensures.added c.refused.ensures)
 
 pub printed_source-requires : goal.printed_source-requires
-printed_source-requires c = loaded_side _ _ _ _ c.load-answer.ensures c.in-Loaded.is c.if-source.true
+printed_source-requires c = loaded_side c.load-loaded.ensures c.in-Ok.is c.if-header.true
 
-pub returns-then-source : goal.returns-then-source
-returns-then-source c =
-    record { prints = source_text _ _ _ _ (loaded_side _ _ _ _ c.load-answer.ensures c.in-Loaded.is c.if-source.true) c.printed_source.ensures.prints; bounded = c.printed_source.ensures.bounded }
+pub returns-then-header : goal.returns-then-header
+returns-then-header c = source_text _ _ _ _ (loaded_side c.load-loaded.ensures c.in-Ok.is c.if-header.true) c.printed_source.ensures
 
-pub loaded-v-requires : goal.loaded-v-requires
-loaded-v-requires c = loaded_side _ _ _ _ c.load-answer.ensures c.in-Loaded.is c.if-source.false
+pub loaded-verdict-requires : goal.loaded-verdict-requires
+loaded-verdict-requires c = loaded_side c.load-loaded.ensures c.in-Ok.is c.if-header.false
 
-pub explained-requires : goal.explained-requires
-explained-requires c = ((loaded_side _ _ _ _ c.load-answer.ensures c.in-Loaded.is c.if-source.false), c.loaded-v.ensures)
+pub reason-requires-clause-room : goal.reason-requires-clause-room
+reason-requires-clause-room c = omega (arith, ap length c.new-text-2.ensures)
+
+pub reason-requires-clause-judged : goal.reason-requires-clause-judged
+reason-requires-clause-judged c = (loaded_side c.load-loaded.ensures c.in-Ok.is c.if-header.false, c.loaded-verdict.ensures)
 
 pub returns : goal.returns
 returns c =
-    record {
-      prints = chip_text _ _ _ _ (loaded_side _ _ _ _ c.load-answer.ensures c.in-Loaded.is c.if-source.false)
-          (record {
-            verdict = _;
-            judged = c.loaded-v.ensures;
-            steps = _;
-            explained = c.explained.ensures;
-            prints = behind_none c.empty-2.result c.empty-2.ensures c.reasoned.ensures.text;
-          });
-      bounded = omega (arith, c.empty-2.ensures, c.reasoned.ensures.size);
-    }
+    chip_text _ _ _ _ (loaded_side c.load-loaded.ensures c.in-Ok.is c.if-header.false)
+    (reasoned_alone c.new-text-2.ensures c.loaded-verdict.ensures c.reason.ensures.put)

@@ -1,30 +1,33 @@
--- `printed_source` meets its contract: the three verdicts, one behind the other.
-use mathlib.Core.Path.{refl, ap₂, ◌∙◌}
-use mathlib.Core.List.{◌++◌}
+-- `printed_source` meets its contract: the three verdicts, each with its steps.
+use mathlib.Core.Path.{ap, ◌∙◌}
 use native.Mathlib.Omega.{arith}
-use Rattle.judgement.proofs.PrintLaws.{source_lines}
-use Rattle.explanation.proofs.WhyLaws.{behind_none}
+use lib.ListN.{length}
+use Rattle.judgement.proofs.ChipLaws.{chip_loads}
+use Rattle.explanation.proofs.WhyLaws.{source_why, judged_bytes}
 use Rattle.explanation.proofs.printed_source.Goals as goal
 
-pub reasoned-requires : goal.reasoned-requires
-reasoned-requires c =
-    let all = c.of_source-verdicts.ensures in
-    (all.tso.shown.bound, omega (arith, c.empty.ensures, c.reasoned-first.ensures.size, c.reasoned-second.ensures.size))
+pub reason-requires-clause-room : goal.reason-requires-clause-room
+reason-requires-clause-room c = omega (arith, ap length c.new-text.ensures)
+
+pub reason-requires-clause-judged : goal.reason-requires-clause-judged
+reason-requires-clause-judged c = (c.requires, c.of_source-verdicts.ensures.source)
+
+pub reason-requires-2-clause-room : goal.reason-requires-2-clause-room
+reason-requires-2-clause-room c = omega (arith, ap length c.new-text.ensures, c.reason.ensures.short)
+
+pub reason-requires-2-clause-judged : goal.reason-requires-2-clause-judged
+reason-requires-2-clause-judged c =
+    let bytes = c.as_slice.ensures.value ∙ c.translated-chip_file.ensures in
+    (chip_loads _ c.requires bytes, judged_bytes _ _ _ bytes c.of_source-verdicts.ensures.chip)
+
+pub reason-requires-3-clause-room : goal.reason-requires-3-clause-room
+reason-requires-3-clause-room c = omega (arith, ap length c.new-text.ensures, c.reason.ensures.short, c.reason-2.ensures.short)
+
+pub reason-requires-3-clause-judged : goal.reason-requires-3-clause-judged
+reason-requires-3-clause-judged c = (c.requires, c.of_source-verdicts.ensures.tso)
 
 pub returns : goal.returns
 returns c =
     let all = c.of_source-verdicts.ensures in
-    let one = behind_none c.empty.result c.empty.ensures c.reasoned-first.ensures.text in
-    let two = c.reasoned-second.ensures.text in record {
-      prints = record {
-        on_source = _;
-        on_chip = _;
-        on_tso = _;
-        source = record { verdict = _; judged = all.source; steps = _; explained = c.explained.ensures; prints = refl };
-        chip = record { verdict = _; judged = all.chip; steps = _; explained = c.chip_steps.ensures; prints = refl };
-        tso = record { verdict = _; judged = all.tso; steps = _; explained = c.explained-2.ensures; prints = refl };
-        judges = source_lines all.source all.chip all.tso all.sound all.tso_sound refl;
-        prints = c.reasoned.ensures.text ∙ ap₂ ◌++◌ (two ∙ ap₂ ◌++◌ one refl) refl;
-      };
-      bounded = omega (arith, c.empty.ensures, c.reasoned-first.ensures.size, c.reasoned-second.ensures.size, c.reasoned.ensures.size);
-    }
+    source_why c.new-text.ensures (c.as_slice.ensures.value ∙ c.translated-chip_file.ensures) all.source all.chip all.tso all.sound all.tso_sound
+    c.reason.ensures.put c.reason-2.ensures.put c.reason-3.ensures.put

@@ -5,14 +5,19 @@ use Rattle.tso.specs.Judged as tso
 use Rattle.judgement.proofs.PrintLaws.{chip_sound, tso_sound}
 use Rattle.judgement.proofs.of_source.Goals as goal
 
-pub sets-sets-requires : goal.sets-sets-requires
-sets-sets-requires c = c.requires.loads
+pub base-base-requires : goal.base-base-requires
+base-base-requires c = c.requires.loads
 
-pub relations-relations-requires : goal.relations-relations-requires
-relations-relations-requires c = c.requires.loads
+pub returns-clause-source : goal.returns-clause-source
+returns-clause-source c =
+    on_recording _ imm.Judged _ _ c.requires.loads (λ B j. j.answer) _ c.base-base.ensures.sets c.base-base.ensures.relations c.judge.ensures
 
-pub returns : goal.returns
-returns c =
-    let l = c.requires in
-    let on = on_recording _ imm.Judged _ _ l.loads (λ B j. j.answer) _ _ c.sets-sets.ensures c.relations-relations.ensures c.judge.ensures in
-    let on_tso = on_recording _ tso.Judged _ _ l.loads (λ B j. j.answer) _ _ c.sets-sets.ensures c.relations-relations.ensures c.judge-2.ensures in record { source = on; chip = c.chip.ensures; tso = on_tso; sound = chip_sound _ _ _ l on c.chip.ensures; tso_sound = tso_sound _ _ _ l on on_tso }
+pub returns-clause-tso : goal.returns-clause-tso
+returns-clause-tso c =
+    on_recording _ tso.Judged _ _ c.requires.loads (λ B j. j.answer) _ c.base-base.ensures.sets c.base-base.ensures.relations c.judge-2.ensures
+
+pub returns-clause-sound : goal.returns-clause-sound
+returns-clause-sound c = chip_sound _ _ _ c.requires (returns-clause-source c) c.chip.ensures
+
+pub returns-clause-tso_sound : goal.returns-clause-tso_sound
+returns-clause-tso_sound c = tso_sound _ _ _ c.requires (returns-clause-source c) (returns-clause-tso c)

@@ -1,41 +1,30 @@
 -- `printed` meets its contract: by what loading answers, and by the side.
 use mathlib.Core.Path.{ap₂, ◌∙◌}
 use mathlib.Core.List.{◌++◌}
-use native.Mathlib.Omega.{arith}
 use Rattle.recording.proofs.CauseLaws.{loaded_side}
-use Rattle.judgement.proofs.PrintLaws.{source_lines, refusal_text, source_text, chip_text}
+use Rattle.judgement.proofs.PrintLaws.{source_lines, refusal_text, source_text, chip_text, alone}
 use Rattle.judgement.proofs.printed.Goals as goal
 
 pub returns-in_default : goal.returns-in_default
 returns-in_default c =
-    record {
-      prints = refusal_text _ _ _ _ c.load-answer.ensures _ _ _ _ c.in_default.is c.number.ensures c.refused.ensures.0 c.refused.ensures.1
-          (c.single.ensures.text ∙ c.line.ensures.line);
-      bounded = omega (arith, c.single.ensures.size);
-    }
+    refusal_text _ _ c.load-loaded.ensures c.in_default.is c.number_of.ensures (alone c.new-text.ensures c.add.ensures.added c.refused.ensures)
 
 pub of_source-verdicts-requires : goal.of_source-verdicts-requires
-of_source-verdicts-requires c = loaded_side _ _ _ _ c.load-answer.ensures c.in-Loaded.is c.if-source.true
+of_source-verdicts-requires c = loaded_side c.load-loaded.ensures c.in-Ok.is c.if-header.true
 
-pub returns-then-source : goal.returns-then-source
-returns-then-source c =
+pub returns-then-header : goal.returns-then-header
+returns-then-header c =
     let all = c.of_source-verdicts.ensures in
-    let first = c.single-first.ensures in
-    let second = c.added-second.ensures in
-    let third = c.added.ensures in record {
-      prints = source_text _ _ _ _ (loaded_side _ _ _ _ c.load-answer.ensures c.in-Loaded.is c.if-source.true)
-          (source_lines all.source all.chip all.tso all.sound all.tso_sound
-          (third.text ∙ ap₂ ◌++◌ (second.text ∙ ap₂ ◌++◌ (first.text ∙ c.line-then-source.ensures.line) c.line-then-source-2.ensures.line) c.line-then-source-3.ensures.line));
-      bounded = omega (arith, third.size, second.size, first.size, c.line-then-source-2.ensures.bounded, c.line-then-source-3.ensures.bounded);
-    }
+    let first = alone c.new-text.ensures c.add-then-header.ensures.added c.line.ensures in
+    let second = c.add-then-header-2.ensures.added ∙ ap₂ ◌++◌ first c.line-then-header.ensures in
+    source_text _ _ _ _ (loaded_side c.load-loaded.ensures c.in-Ok.is c.if-header.true)
+    (source_lines all.source all.chip all.tso all.sound all.tso_sound
+    (c.add-then-header-3.ensures.added ∙ ap₂ ◌++◌ second c.line-then-header-2.ensures))
 
-pub loaded-requires : goal.loaded-requires
-loaded-requires c = loaded_side _ _ _ _ c.load-answer.ensures c.in-Loaded.is c.if-source.false
+pub loaded-verdict-requires : goal.loaded-verdict-requires
+loaded-verdict-requires c = loaded_side c.load-loaded.ensures c.in-Ok.is c.if-header.false
 
 pub returns : goal.returns
 returns c =
-    record {
-      prints = chip_text _ _ _ _ (loaded_side _ _ _ _ c.load-answer.ensures c.in-Loaded.is c.if-source.false)
-          (record { on_chip = _; judged_chip = c.loaded.ensures; prints = c.single-2.ensures.text ∙ c.line-2.ensures.line });
-      bounded = omega (arith, c.single-2.ensures.size);
-    }
+    chip_text _ _ _ _ (loaded_side c.load-loaded.ensures c.in-Ok.is c.if-header.false)
+    (record { on_chip = _; judged_chip = c.loaded-verdict.ensures; prints = alone c.new-text.ensures c.add-2.ensures.added c.line-2.ensures })

@@ -1,16 +1,20 @@
 -- `answered` meets its contract, by cases.
-use mathlib.Core.Path.{sym, ap, ◌∙◌}
-use Rattle.probe.specs.Calls.{coded_answer}
-use borrow.Author.Rules.{rules}
+use mathlib.Core.Path.{ap, subst, ◌∙◌}
+use Prim.Native.Nat.{ℕ, ◌≤◌}
+use Rattle.std.specs.Prelude.{Result, IfOk}
+use Rattle.refusal.specs.declared.Refusal.{Refusal}
+use Rattle.output.specs.Output.{Fills}
+use Rattle.probe.specs.Calls.{coded}
+use Rattle.probe.proofs.ProbeLaws.{stored_ok, stored_err}
 use Rattle.probe.proofs.answered.Goals as goal
 
-pub coded-requires-in-Written : goal.coded-requires-in-Written
-coded-requires-in-Written c = search (rules, c.requires _ c.in-Written.is)
+pub coded-requires : goal.coded-requires
+coded-requires c = subst (λ (r : Result ℕ Refusal). IfOk r (λ n. n ≤ 1458)) c.in-Ok.is c.requires
 
-pub returns-in-Refused : goal.returns-in-Refused
-unfolding coded_answer
-returns-in-Refused c = c.coded.ensures ∙ sym (ap (coded_answer _) c.in-Refused.is)
+pub returns-in-Ok : goal.returns-in-Ok
+returns-in-Ok c = λ k bytes out left w. stored_ok (subst (λ (r : Result ℕ Refusal). Fills k bytes out r left) c.in-Ok.is w) c.coded.ensures
 
-pub returns-in-Written : goal.returns-in-Written
-unfolding coded_answer
-returns-in-Written c = c.coded-in-Written.ensures ∙ sym (ap (coded_answer _) c.in-Written.is)
+pub returns-in-Err : goal.returns-in-Err
+returns-in-Err c = λ k bytes out left w.
+    stored_err (subst (λ (r : Result ℕ Refusal). Fills k bytes out r left) c.in-Err.is w)
+    (c.coded-in-Err.ensures ∙ ap (λ (j : ℕ). coded j 0 0) c.number.ensures)

@@ -1,11 +1,8 @@
 -- `probe_load` meets its contract.
 use mathlib.Core.Path.{ap, ◌∙◌}
 use Prim.Native.Nat.{ℕ}
-use Rattle.recording.specs.Load.{number_of}
-use Rattle.recording.proofs.CauseLaws.{load_number}
 use Rattle.probe.specs.Calls.{coded}
 use Rattle.probe.proofs.probe_load.Goals as goal
 
 pub returns : goal.returns
-returns c =
-    c.coded.ensures ∙ ap (λ (k : ℕ). coded k 0 0) (c.number.ensures ∙ ap number_of c.load.ensures ∙ load_number _)
+returns c = c.coded.ensures ∙ ap (λ (k : ℕ). coded k 0 0) (c.number_of.ensures ∙ c.load.ensures.refused)

@@ -6,8 +6,8 @@ use Rattle.translate.proofs.main.Goals as goal
 
 pub slice_bounds-bytes-end : goal.slice_bounds-bytes-end
 slice_bounds-bytes-end c =
-    (fills_wrote _ _ _ _ _ (c.in-Written.ensures _ (read_itself c.read.new.start c.in_ok-n.n)) _ refl).within
+    (fills_wrote _ _ _ _ _ (c.of_input.ensures _ (read_itself c.read.new.start c.in_ok-n.n)) _ refl).within
 
 pub slice_bounds-write-end : goal.slice_bounds-write-end
 slice_bounds-write-end c =
-    sym (length-take-le _ _ (fills_wrote _ _ _ _ _ (c.in-Written.ensures _ (read_itself c.read.new.start c.in_ok-n.n)) _ refl).within)
+    sym (length-take-le _ _ (fills_wrote _ _ _ _ _ (c.of_input.ensures _ (read_itself c.read.new.start c.in_ok-n.n)) _ refl).within)

@@ -10,9 +10,7 @@ pub returns : goal.returns
 unfolding eval base_of
 returns c =
     λ fre. let B = base_of c.args.b.now in
-    let rfe = c.rfe.ensures in
-    let coe = c.coe.ensures in
     let d = held_at dob_clauses B _ c.dob-dob.ensures in
     let a = held_at aob_clauses B _ c.aob-aob.ensures in
     let b = held_at bob_clauses B _ c.bob-bob.ensures in
-    record { clauses = λ n. rfe n ∷ fre n ∷ coe n ∷ d 0 n ∷ d 1 n ∷ d 2 n ∷ d 3 n ∷ a 0 n ∷ a 1 n ∷ b 0 n ∷ b 1 n ∷ b 2 n ∷ b 3 n ∷ b 4 n ∷ [] }
+    record { clauses = λ n. c.rfe.ensures n ∷ fre n ∷ c.coe.ensures n ∷ d 0 n ∷ d 1 n ∷ d 2 n ∷ d 3 n ∷ a 0 n ∷ a 1 n ∷ b 0 n ∷ b 1 n ∷ b 2 n ∷ b 3 n ∷ b 4 n ∷ [] }

@@ -13,10 +13,6 @@ pub returns : goal.returns
 unfolding eval base_of
 returns c =
     λ h e. let B = base_of c.args.b.now in
-    let rfe = c.rfe.ensures in
     let b = held_at bob_clauses B _ c.bob-bob.ensures in
-    let ppo = c.ppo.ensures in
-    let detour = c.detour.ensures in
-    let psc = c.psc.ensures h e in
     let strong = holds B (⟨ Wstrong ⟩ ⨾ po ⨾ ⟨ W ⟩) (is_before _ c.from-strong.ensures (is_set refl refl) (is_after _ c.into.ensures (given refl) (is_set refl refl))) in
-    record { clauses = λ n. rfe n ∷ b 0 n ∷ b 1 n ∷ b 2 n ∷ b 3 n ∷ b 4 n ∷ ppo n ∷ detour n ∷ psc n ∷ strong n ∷ [] }
+    record { clauses = λ n. c.rfe.ensures n ∷ b 0 n ∷ b 1 n ∷ b 2 n ∷ b 3 n ∷ b 4 n ∷ c.ppo.ensures n ∷ c.detour.ensures n ∷ c.psc.ensures h e n ∷ strong n ∷ [] }

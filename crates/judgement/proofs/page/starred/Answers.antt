@@ -1,20 +1,30 @@
--- `page::starred` meets its contract: the array for the page is never too short.
-use Rattle.output.proofs.OutputLaws.{within, first_size}
-use Rattle.judgement.proofs.PageLaws.{page_not_refused, page_begins}
+-- `page::starred` meets its contract: the array is never too short, and the page is what is taken of it.
+use mathlib.Core.Path.{sym, ap, ◌∙◌}
+use native.Mathlib.Omega.{arith}
+use lib.ListN.{length}
+use lib.Seq.{length-take-le}
+use Rattle.printout.specs.Page.{page}
+use Rattle.judgement.proofs.FitLaws.{where_ok}
+use Rattle.judgement.proofs.PrintLaws.{alone}
+use Rattle.judgement.proofs.PageLaws.{page_fits, page_written}
 use borrow.Author.Rules.{rules}
 use Rattle.judgement.proofs.page.starred.Goals as goal
 
-pub returns-in-Refused : goal.returns-in-Refused
-returns-in-Refused c =
-    absurd (page_not_refused _ _ _ _ _ c.requires.0 c.written.ensures (search rules) _ c.in-Refused.is)
+pub unwrap-n-requires : goal.unwrap-n-requires
+unwrap-n-requires c = page_fits _ _ c.requires c.written.ensures (search rules)
 
-pub returns-in-Written : goal.returns-in-Written
-returns-in-Written c =
-    let told = page_begins _ _ _ _ _ c.requires.0 c.written.ensures _ c.ring_length-n.ensures.ring _ c.in-Written.is in
-    record { page = told.0; bounded = told.1 }
+pub slice_bounds-bytes-end : goal.slice_bounds-bytes-end
+slice_bounds-bytes-end c = (page_written _ _ c.requires c.written.ensures c.unwrap-n.ensures).within
 
-pub slice_bounds-ring-end : goal.slice_bounds-ring-end
-slice_bounds-ring-end c = within c.args.v.at c.ring_length-n.ensures.bounded (search rules)
+pub slice_bounds-try_extend_from_slice-end : goal.slice_bounds-try_extend_from_slice-end
+slice_bounds-try_extend_from_slice-end c = sym (length-take-le _ _ ((page_written _ _ c.requires c.written.ensures c.unwrap-n.ensures).within))
 
-pub slice_bounds-written-end : goal.slice_bounds-written-end
-slice_bounds-written-end c = first_size _ c.ring_length-n.ensures.bounded (search rules)
+pub unwrap-requires : goal.unwrap-requires
+unwrap-requires c =
+    let w = page_written _ _ c.requires c.written.ensures c.unwrap-n.ensures in
+    c.try_extend_from_slice.ensures.variant.1 (omega (arith, ap length c.new-page.ensures, length-take-le _ _ w.within, w.few))
+
+pub returns : goal.returns
+returns c =
+    let w = page_written _ _ c.requires c.written.ensures c.unwrap-n.ensures in
+    alone c.new-page.ensures (where_ok c.try_extend_from_slice.ensures.ok c.unwrap.ensures) (w.begins ∙ ap (page c.args.file.now) c.ring_of.ensures)

@@ -1,12 +1,8 @@
--- `why::flat` meets its contract: k of the steps are written.
-use mathlib.Core.Path.{◌≡◌}
-use Prim.Native.Nat.{◌-◌, ◌≤◌}
-use lib.ListN.{length}
-use Rattle.probe.proofs.WhyLaws.{Flat}
+-- `why::flat`: the bytes of the steps before the one that is next are put.
+use Rattle.std.proofs.Common.{◌≡◌, ◌*◌, take}
+use Rattle.arrayvec.specs.ArrayVec.{array_vec_len}
+use Rattle.probe.specs.Calls.{bytes_of}
 use Rattle.probe.proofs.why.flat.Given as goal
 
-abbrev pub invariant-loop-k : goal.invariant-loop-k
-invariant-loop-k l = (l.k ≤ l.n) × (l.n ≤ 64) × (length l.steps ≡ 64) × Flat l.steps l.k l.at
-
-abbrev pub decreases-loop-k : goal.decreases-loop-k
-decreases-loop-k l = l.n - l.k
+abbrev pub invariant-loop-step : goal.invariant-loop-step
+invariant-loop-step l = (l.bytes.items ≡ bytes_of (take l.step-index l.steps)) × (array_vec_len l.bytes ≡ 3 * l.step-index)

@@ -1,27 +1,21 @@
 -- `why::of_model` meets its contract: a refusal's number, or the steps are stored.
-use mathlib.Core.Path.{sym, ◌∙◌}
-use Rattle.recording.proofs.CauseLaws.{cause_goes_on}
-use Rattle.verdicts.specs.ByModel.{clauses_for, JudgedFor}
-use Rattle.verdicts.proofs.ByModelLaws.{judged_few}
-use Rattle.probe.proofs.WhyLaws.{explains_refused, explains_loaded}
+use mathlib.Core.Path.{ap, ◌∙◌}
+use native.Mathlib.Omega.{arith}
+use Rattle.probe.specs.Calls.{bytes_of}
+use Rattle.probe.proofs.ProbeLaws.{few}
+use Rattle.probe.proofs.WhyLaws.{on_file_loads, explains_refused, explains_loaded}
 use Rattle.probe.proofs.why.of_model.Goals as goal
 
-pub returns-then-k-ne0 : goal.returns-then-k-ne0
-returns-then-k-ne0 c =
-    let model = c.args.model in
-    explains_refused _ _ (clauses_for model) (JudgedFor model) _ _ _ _ c.cause-k.ensures c.if-k-ne0.true c.coded.ensures
-
-pub loaded-v-requires : goal.loaded-v-requires
-loaded-v-requires c = cause_goes_on _ _ (sym c.cause-k.ensures ∙ c.if-k-ne0.false)
+pub returns-in_default : goal.returns-in_default
+returns-in_default c = explains_refused c.verdict-judged.ensures c.in_default.is c.number_of.ensures c.coded.ensures
 
 pub explained-requires : goal.explained-requires
-explained-requires c = (cause_goes_on _ _ (sym c.cause-k.ensures ∙ c.if-k-ne0.false), c.loaded-v.ensures)
+explained-requires c = on_file_loads c.verdict-judged.ensures c.in-Ok.is
 
-pub explained-requires-2 : goal.explained-requires-2
-explained-requires-2 c = judged_few c.args.model _ _ c.loaded-v.ensures.shown
+pub answered-requires : goal.answered-requires
+answered-requires c = few 1458 c.fill.ensures (λ z. omega (arith, c.as_slice-2.ensures.fits))
 
 pub returns : goal.returns
 returns c =
-    let model = c.args.model in
-    explains_loaded _ _ (clauses_for model) (JudgedFor model) _ _ _ _ c.cause-k.ensures c.if-k-ne0.false _ _ c.loaded-v.ensures _
-    c.explained.ensures c.explained-2.ensures
+    explains_loaded c.verdict-judged.ensures c.in-Ok.is c.explained.ensures c.rule_of.ensures
+    (c.as_slice-2.ensures.value ∙ c.flat-steps.ensures ∙ ap bytes_of c.as_slice.ensures.value) (c.answered.ensures _ _ _ _ c.fill.ensures)

@@ -13,6 +13,5 @@ returns c =
     λ fr. let B = base_of c.args.b.now in
     let p = held_at ppo_clauses B _ c.ppo-ppo.ensures in
     let f = held_at fenced_clauses B _ c.fenced-fenced.ensures in
-    let rfe = c.rfe.ensures in
     let co = refl {a = B.co} in
-    record { clauses = λ n. p 0 n ∷ p 1 n ∷ f 0 n ∷ f 1 n ∷ rfe n ∷ co n ∷ fr n ∷ [] }
+    record { clauses = λ n. p 0 n ∷ p 1 n ∷ f 0 n ∷ f 1 n ∷ c.rfe.ensures n ∷ co n ∷ fr n ∷ [] }
