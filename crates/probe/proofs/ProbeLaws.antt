@@ -45,13 +45,13 @@ bytes_last : (ss : List (List ℕ)) (s : List ℕ) → bytes_of (ss ++ (s ∷ []
 bytes_last [] s = refl
 bytes_last (t ∷ ss) s = ap (λ (l : List ℕ). get_or t 0 0 ∷ get_or t 1 0 ∷ get_or t 2 0 ∷ l) (bytes_last ss s)
 
-pub bytes_more : (ss : List (List ℕ)) (k : ℕ) → k < length ss → {x y z : List ℕ} → let s = get_or ss k [] in
-    x ≡ bytes_of (take k ss) ++ (get_or s 0 0 ∷ []) → y ≡ x ++ (get_or s 1 0 ∷ []) → z ≡ y ++ (get_or s 2 0 ∷ []) → z ≡ bytes_of (take (k + 1) ss)
-bytes_more ss k h a b c =
+pub bytes_more : (ss : List (List ℕ)) (k : ℕ) → k < length ss → {w x y z : List ℕ} → let s = get_or ss k [] in
+    w ≡ bytes_of (take k ss) → x ≡ w ++ (get_or s 0 0 ∷ []) → y ≡ x ++ (get_or s 1 0 ∷ []) → z ≡ y ++ (get_or s 2 0 ∷ []) → z ≡ bytes_of (take (k + 1) ss)
+bytes_more ss k h d a b c =
     let s = get_or ss k [] in
     let before = bytes_of (take k ss) in
     c
-    ∙ ap (λ (l : List ℕ). l ++ (get_or s 2 0 ∷ [])) (b ∙ ap (λ (l : List ℕ). l ++ (get_or s 1 0 ∷ [])) a ∙ append_assoc before (get_or s 0 0 ∷ []) (get_or s 1 0 ∷ []))
+    ∙ ap (λ (l : List ℕ). l ++ (get_or s 2 0 ∷ [])) (b ∙ ap (λ (l : List ℕ). l ++ (get_or s 1 0 ∷ [])) (a ∙ ap (λ (l : List ℕ). l ++ (get_or s 0 0 ∷ [])) d) ∙ append_assoc before (get_or s 0 0 ∷ []) (get_or s 1 0 ∷ []))
     ∙ append_assoc before (get_or s 0 0 ∷ get_or s 1 0 ∷ []) (get_or s 2 0 ∷ [])
     ∙ sym (bytes_last (take k ss) s)
     ∙ ap bytes_of (sym (take-suc ss k [] h) ∙ ap (λ (j : ℕ). take j ss) (sym (add-one k)))

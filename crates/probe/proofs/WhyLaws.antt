@@ -28,7 +28,8 @@ use Rattle.probe.proofs.ProbeLaws.{stored_refused}
 
 -- What is stored, by equal bytes and rules.
 stored_as : {rule n r : ℕ} {bytes wanted out left : List ℕ} → rule ≡ n → bytes ≡ wanted → Stored 0 rule bytes out r left → Stored 0 n wanted out r left
-stored_as {r = r} {out = out} {left} e p w = subst (λ (l : List ℕ). Stored 0 _ l out r left) p (subst (λ (j : ℕ). Stored 0 j _ out r left) e w)
+stored_as {n = n} {r} {bytes} {out = out} {left} e p w =
+    subst (λ (l : List ℕ). Stored 0 n l out r left) p (subst (λ (j : ℕ). Stored 0 j bytes out r left) e w)
 
 alone : {k n r : ℕ} → n ≡ k → r ≡ coded n 0 0 → r ≡ coded k 0 0
 alone p a = a ∙ ap (λ (j : ℕ). coded j 0 0) p
@@ -38,8 +39,8 @@ pub reported_ok : {a : Result Verdict Refusal} {v : Verdict} {rule r : ℕ} {byt
     → Stored 0 rule bytes out r left → Reported a out r left
 reported_ok {r = r} {out = out} {left} is e p w = subst (λ (a : Result Verdict Refusal). Reported a out r left) (sym is) (stored_as e p w)
 
-pub reported_err : {a : Result Verdict Refusal} {e : Refusal} {n r : ℕ} {out : List ℕ} → a ≡ Err e → n ≡ number e → r ≡ coded n 0 0 → Reported a out r out
-reported_err {e = e} {r = r} {out} is p q =
+pub reported_err : {a : Result Verdict Refusal} {e : Refusal} {n r : ℕ} (out : List ℕ) → a ≡ Err e → n ≡ number e → r ≡ coded n 0 0 → Reported a out r out
+reported_err {e = e} {r = r} out is p q =
     subst (λ (a : Result Verdict Refusal). Reported a out r out) (sym is) (stored_refused e refl (alone p q))
 
 -- The answer of a model.

@@ -43,5 +43,8 @@ pub fn of_model(model: Model, file: &[u8], out: &mut [u8]) -> u64
         return coded(refusal::number_of(&judged), 0, 0);
     };
     let steps = flat(verdicts::explained(model, file, verdict).as_slice());
-    answered(verdict::rule_of(verdict), output::fill(out, steps.as_slice()))
+    answered(
+        verdict::rule_of(verdict),
+        output::fill(out, steps.as_slice()),
+    )
 }

@@ -1,5 +1,6 @@
 -- `model_of` meets its contract, by the number.
 use mathlib.Core.Path.{sym}
+use borrow.Author.Rules.{rules}
 use Rattle.lines.specs.declared.Model.TheVariants.{Source, Chip, Tso}
 use Rattle.probe.proofs.WhyLaws.{known_model, no_model}
 use Rattle.probe.proofs.model_of.Goals as goal
@@ -14,4 +15,4 @@ pub returns-in-3 : goal.returns-in-3
 returns-in-3 c = known_model _ Tso (sym c.in-3.is)
 
 pub returns-in_default : goal.returns-in_default
-returns-in_default c = ?
+returns-in_default c = no_model _ (search rules) (search rules) (search rules)

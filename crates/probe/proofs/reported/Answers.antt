@@ -20,4 +20,4 @@ returns-in-Ok-Err c =
     reported_ok c.in-Ok-Err.is c.number.ensures c.as_slice-in-Ok-Err.ensures.value (c.answered-in-Ok-Err.ensures _ _ _ _ c.fill-in-Ok-Err.ensures)
 
 pub returns-in-Err : goal.returns-in-Err
-returns-in-Err c = reported_err c.in-Err.is c.number-in-Err.ensures c.coded.ensures
+returns-in-Err c = reported_err _ c.in-Err.is c.number-in-Err.ensures c.coded.ensures
