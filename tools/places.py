@@ -9,7 +9,7 @@ from pathlib import Path
 KINDS = [
     ("1a", "own enums of the shape of Option or Result", r"^pub enum (Load|Filled|Answer) "),
     ("1b", "uses of them", r"\b(Load|Filled|Answer)::[A-Z]"),
-    ("1c", "a number for a refusal, or for none", r"^(pub )?fn (header_refusal|record_refusal|link_refusal|number|cause|refused|rule|ring_length|left)\b.*-> (u8|usize|Verdict)|^\s*return (Filled::Refused\(.*\)|[0-9]+);|\bif [ijk] != 0|\bif (64 <= [a-z]+|[a-z]+ < 64) \{|row::first\(.*\) (<|==) 64|= row::(first|next)\("),
+    ("1c", "a number for a refusal, or for none", r"^(pub )?fn (header_refusal|record_refusal|link_refusal|number|cause|refused|rule|ring_length|left)\b.*-> (u8|usize|Verdict)|^\s*return (Filled::Refused\(.*\)|[0-9]+);|\bif [ijk] != 0|\bif (64 <= [a-z]+|[a-z]+ < 64) \{|row::first\(.*\) (<|==) 64|row::next\("),
     ("1d", "a length as a flag", r"\.len (!=|==) 0"),
     ("1e", "a bool for a side", r"\bsource: bool|: bool = (true|false)|own != source|let source = h"),
     ("1f", "a number for a kind, class, mode, flag, link type, rule or model", r"\b(class|kind|mode|flag|t|rule|k|model|n)\b [=!]= [0-9]|(class_of|mode_of|flag_of|link_byte|event_byte)\(.*\) [=!]= [0-9]|\b(of_class|is_flagged|classes|sources_of|links|link_rows|sorted)\((&?file|file\b).*, [1-7]\)|\bclasses\(file, a, [0-9]|broken_(event|pair|ring)\([0-9]|from_exact"),

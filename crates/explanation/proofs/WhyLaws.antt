@@ -14,7 +14,7 @@ use Rattle.models.specs.Why.{Clauses, clauses_of, imm_rings, armv8_rings, tso_ri
 use Rattle.layout.specs.Decode.{decode}
 use Rattle.verdict.specs.Verdict.{Verdict, number, rule_of}
 use Rattle.verdict.specs.declared.Broken.{Broken}
-use Rattle.clause.specs.Steps.{joined, ring, Explained}
+use Rattle.clause.specs.Steps.{joined, ring, steps_to, Explained}
 use Rattle.translation.specs.Translation.{translation}
 use Rattle.lines.specs.Lines.{source, chip, tso}
 use Rattle.judgement.specs.Judgement.{OnSource, OnChip, OnTso, line_for}
@@ -35,7 +35,7 @@ joined_more f ls k h =
 
 -- An allowed verdict shows no ring, and needs no step.
 pub none_explained : (cs : List Clause) (r : Recording ℕ) (all : ArrayVec ℕ) → Explained cs r (ring (Ok all)) []
-unfolding ring
+unfolding ring steps_to
 none_explained cs r all = record { number = λ a b. 0; first = λ k h. absurd (omega arith); are = refl }
 
 -- The line of a step more.
@@ -60,14 +60,15 @@ module _ {C : Clauses} {word : List ℕ} {r : Recording ℕ} {v : Verdict} {befo
       }
 
   -- and one that is broken the lines of the steps too.
-  pub ring_reasons : {broken : Broken} {steps : List (List ℕ)} {after : List ℕ} → v ≡ Err broken → Explained (clauses_of C (rule_of v)) r (ring v) steps
-      → after ≡ first ++ step_lines word (clauses_of C (number broken.rule)) steps → Reasons C word r v before after
-  ring_reasons {broken} {steps} is w q =
+  pub ring_reasons : {broken : Broken} {steps shown : List (List ℕ)} {after : List ℕ} → v ≡ Err broken → Explained (clauses_of C (rule_of v)) r (ring v) steps
+      → shown ≡ steps → after ≡ first ++ step_lines word (clauses_of C (number broken.rule)) shown → Reasons C word r v before after
+  ring_reasons {broken} {steps} is w s q =
       let lines = step_lines word (clauses_of C (number broken.rule)) steps in
       record {
         steps = steps;
         explained = w;
         prints = q
+            ∙ ap (λ (l : List (List ℕ)). first ++ step_lines word (clauses_of C (number broken.rule)) l) s
             ∙ ap (λ (l : List ℕ). l ++ lines) (p ∙ ap (λ (l : List ℕ). before ++ l) e)
             ∙ append_assoc before (line_for word v) lines
             ∙ ap (λ (n : ℕ). before ++ (line_for word v ++ step_lines word (clauses_of C n) steps)) (sym (ap rule_of is));
@@ -87,6 +88,7 @@ reasoned_alone {C = C} {word} {v = v} e on w =
 pub source_why : {f g t₀ t₁ t₂ t₃ : List ℕ} {v w u : Verdict} → t₀ ≡ [] → g ≡ translation f → OnSource f v → OnChip (translation f) w → OnTso f u
     → (rule_of w ≡ 0 → rule_of v ≡ 0) → (rule_of u ≡ 0 → rule_of v ≡ 0)
     → Reasons imm_rings source (decode f) v t₀ t₁ → Reasons armv8_rings chip (decode g) w t₁ t₂ → Reasons tso_rings tso (decode f) u t₂ t₃ → SourceWhy f t₃
+unfolding reasoned
 source_why {f} {g} {t₀} {t₁} {t₂} {v = v} {w} {u} e is on on_chip on_tso sound also a b c =
     let b = subst (λ (l : List ℕ). Reasons armv8_rings chip (decode l) w t₁ t₂) is b in
     let first = line_for source v ++ step_lines source (clauses_of imm_rings (rule_of v)) a.steps in

@@ -35,9 +35,14 @@ alone : {k n r : ℕ} → n ≡ k → r ≡ coded n 0 0 → r ≡ coded k 0 0
 alone p a = a ∙ ap (λ (j : ℕ). coded j 0 0) p
 
 -- The answer of a verdict.
-pub reported_ok : {a : Result Verdict Refusal} {v : Verdict} {rule r : ℕ} {bytes out left : List ℕ} → a ≡ Ok v → rule ≡ rule_of v → bytes ≡ events v
-    → Stored 0 rule bytes out r left → Reported a out r left
-reported_ok {r = r} {out = out} {left} is e p w = subst (λ (a : Result Verdict Refusal). Reported a out r left) (sym is) (stored_as e p w)
+pub shown_as : {v w : Verdict} {rule r : ℕ} {bytes out left : List ℕ} → v ≡ w → rule ≡ rule_of w → bytes ≡ events w → Stored 0 rule bytes out r left
+    → Stored 0 (rule_of v) (events v) out r left
+shown_as {r = r} {out = out} {left} is e p w =
+    subst (λ (u : Verdict). Stored 0 (rule_of u) (events u) out r left) (sym is) (stored_as e p w)
+
+pub reported_ok : {a : Result Verdict Refusal} {v : Verdict} {r : ℕ} {out left : List ℕ} → a ≡ Ok v → Stored 0 (rule_of v) (events v) out r left
+    → Reported a out r left
+reported_ok {r = r} {out} {left} is w = subst (λ (a : Result Verdict Refusal). Reported a out r left) (sym is) w
 
 pub reported_err : {a : Result Verdict Refusal} {e : Refusal} {n r : ℕ} (out : List ℕ) → a ≡ Err e → n ≡ number e → r ≡ coded n 0 0 → Reported a out r out
 reported_err {e = e} {r = r} out is p q =

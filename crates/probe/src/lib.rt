@@ -13,6 +13,7 @@ ghost use Rattle.models.specs.Rules.{IMM, ARMv8, TSO};
 ghost use Rattle.imm.specs.Judged as imm;
 ghost use Rattle.armv8.specs.Judged as armv8;
 ghost use Rattle.tso.specs.Judged as tso;
+ghost use Rattle.verdict.specs.Verdict.{rule_of, events};
 ghost use Rattle.output.specs.Output.{Fills};
 ghost use Rattle.translation.specs.Translation.{translation};
 ghost use Rattle.printout.specs.Page.{page};
@@ -22,7 +23,7 @@ ghost use Rattle.probe.specs.Calls.{coded, Stored, Reported, Reports, Printed, M
 use lines::Model;
 use recording::causes;
 use refusal::Refusal;
-use verdict::{Broken, Verdict};
+use verdict::Verdict;
 
 // An answer: the number of the refusal, that of the broken rule, and how many bytes were written.
 fn coded(cause: u8, rule: u8, written: usize) -> u64
@@ -51,15 +52,25 @@ fn answered(rule: u8, filled: Result<usize, Refusal>) -> u64
     }
 }
 
-// Puts the events that a verdict shows at the start of the output; a refusal is answered by its number.
+// Puts the events that a verdict shows at the start of the output.
+fn shown(verdict: &Verdict, out: &mut [u8]) -> u64
+    ensures { Stored 0 (rule_of verdict.now) (events verdict.now) out.old result out.new }
+{
+    match verdict {
+        Ok(events) => answered(0, output::fill(out, events.as_slice())),
+        Err(broken) => {
+            let rule = broken.rule.number();
+            answered(rule, output::fill(out, broken.events.as_slice()))
+        }
+    }
+}
+
+// The same of an answer that may be a refusal, which is answered by its number.
 fn reported(verdict: &Result<Verdict, Refusal>, out: &mut [u8]) -> u64
     ensures { Reported verdict.now out.old result out.new }
 {
     match verdict {
-        Ok(Ok(events)) => answered(0, output::fill(out, events.as_slice())),
-        Ok(Err(Broken { rule, events })) => {
-            answered(rule.number(), output::fill(out, events.as_slice()))
-        }
+        Ok(verdict) => shown(verdict, out),
         Err(cause) => coded(cause.number(), 0, 0),
     }
 }

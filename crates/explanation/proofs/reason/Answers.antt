@@ -1,11 +1,5 @@
 -- `reason` meets its contract: the line of the verdict, and where a rule is broken the lines of the steps of its ring.
-use mathlib.Core.Path.{ap, ◌∙◌}
 use native.Mathlib.Omega.{arith}
-use Rattle.models.specs.Why.{clauses_of}
-use Rattle.verdict.specs.Verdict.{number}
-use Rattle.lines.specs.Lines.{model_word}
-use Rattle.verdicts.specs.ByModel.{clauses_for}
-use Rattle.explanation.specs.StepLine.{step_lines}
 use Rattle.explanation.proofs.WhyLaws.{none_reasons, ring_reasons}
 use Rattle.explanation.proofs.reason.Goals as goal
 
@@ -17,11 +11,7 @@ put_steps-requires c = omega (arith, c.add.ensures.short, c.as_slice.ensures.fit
 
 pub returns-clause-put : goal.returns-clause-put
 returns-clause-put c =
-    ring_reasons c.add.ensures.added c.line.ensures c.in-Err.is c.explained-steps.ensures
-    (c.put_steps.ensures.put
-    ∙ ap
-    (λ steps. c.add.text.items ++ step_lines (model_word c.args.model) (clauses_of (clauses_for c.args.model) (number c.in-Err.broken.rule)) steps)
-    c.as_slice.ensures.value)
+    ring_reasons c.add.ensures.added c.line.ensures c.in-Err.is c.explained-steps.ensures c.as_slice.ensures.value c.put_steps.ensures.put
 
 pub returns-clause-short : goal.returns-clause-short
 returns-clause-short c = omega (arith, c.put_steps.ensures.short, c.add.ensures.short, c.as_slice.ensures.fits)
