@@ -79,7 +79,8 @@ pub fn printed(file: &[u8]) -> Lines
         lines::add(&mut text, &lines::refused(refusal::number_of(&loaded)));
         return text;
     };
-    if header.source {
+    let source = header.source;
+    if source {
         let verdicts = of_source(file);
         lines::add(&mut text, &line(Model::Source, &verdicts.source));
         lines::add(&mut text, &line(Model::Chip, &verdicts.chip));
