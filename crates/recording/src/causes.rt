@@ -21,8 +21,8 @@ use relation::grid::Grid;
 use relation::{grid, row};
 
 // Whether all links are sound.
-pub fn links_sound(file: &[u8], po: Grid) -> bool
-    requires { Chained file.now × (edge po ≡ (base nodes (decode file.now)).po) }
+pub fn links_sound(file: &[u8], po: &Grid) -> bool
+    requires { Chained file.now × (edge po.now ≡ (base nodes (decode file.now)).po) }
     ensures { result ≡ each (events file.now) (links_sound_at file.now) }
 {
     let n = field::events(file);
@@ -124,7 +124,7 @@ pub fn link_refusal(file: &[u8]) -> Result<(), Refusal>
     requires { Sized file.now × (first (record_causes file.now) ≡ 0) }
     ensures { number_of result ≡ first (link_causes file.now) }
 {
-    if !links_sound(file, graph::program_order(file)) {
+    if !links_sound(file, &graph::program_order(file)) {
         return Err(Refusal::BadLink);
     }
     if co_ring(file) {

@@ -28,8 +28,8 @@ pub fn one_source(row: Row) -> bool
 
 // Whether the link m into b is sound, where po is program order.
 #[tactic(auto, using(reading::proofs::LinkLaws::row_of_source))]
-pub fn sound(file: &[u8], po: Grid, m: usize, b: usize) -> bool
-    requires { Sized file.now × (edge po ≡ (base nodes (decode file.now)).po) × (1 ≤ m) × (m ≤ links file.now) × (b < 64) }
+pub fn sound(file: &[u8], po: &Grid, m: usize, b: usize) -> bool
+    requires { Sized file.now × (edge po.now ≡ (base nodes (decode file.now)).po) × (1 ≤ m) × (m ≤ links file.now) × (b < 64) }
     ensures { result ≡ link_sound file.now b m }
 {
     // The mask keeps within po; the source of a sound link is below 64.
@@ -38,8 +38,8 @@ pub fn sound(file: &[u8], po: Grid, m: usize, b: usize) -> bool
 }
 
 // Whether each of the links into b is.
-pub fn each_sound(file: &[u8], po: Grid, b: usize) -> bool
-    requires { Chained file.now × (edge po ≡ (base nodes (decode file.now)).po) × (1 ≤ b) × (b ≤ events file.now) }
+pub fn each_sound(file: &[u8], po: &Grid, b: usize) -> bool
+    requires { Chained file.now × (edge po.now ≡ (base nodes (decode file.now)).po) × (1 ≤ b) × (b ≤ events file.now) }
     ensures { result ≡ all_of (links_into file.now b) (link_sound file.now b) }
 {
     let links = links::into(file, b);
@@ -51,8 +51,8 @@ pub fn each_sound(file: &[u8], po: Grid, b: usize) -> bool
 
 // Whether the links into b are sound, and b has one rf source.
 #[tactic(auto, using(crate::proofs::LegalLaws::legal_tests), unfolding(crate::specs::Causes::links_sound_at))]
-pub fn sound_into(file: &[u8], po: Grid, b: usize) -> bool
-    requires { Chained file.now × (edge po ≡ (base nodes (decode file.now)).po) × (1 ≤ b) × (b ≤ events file.now) }
+pub fn sound_into(file: &[u8], po: &Grid, b: usize) -> bool
+    requires { Chained file.now × (edge po.now ≡ (base nodes (decode file.now)).po) × (1 ≤ b) × (b ≤ events file.now) }
     ensures { result ≡ links_sound_at file.now b }
 {
     each_sound(file, po, b) && one_source(links::sources(file, b, 1))

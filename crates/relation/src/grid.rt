@@ -79,16 +79,23 @@ pub fn minus(a: Grid, b: Grid) -> Grid
     row_by_row(a, b, row::minus)
 }
 
+// What g reaches from s in one step; by reference, so that a call copies no grid.
+fn reached(s: Row, g: &Grid) -> Row
+    ensures { bit result ≡ image nodes (bit s) (edge g.now) }
+{
+    let mut r = row::none();
+    for i in row::members(s) {
+        let more = row::or(r, g[i]);
+        r = more;
+    }
+    r
+}
+
 // What g reaches from s in one step.
 pub fn image(s: Row, g: Grid) -> Row
     ensures { bit result ≡ image nodes (bit s) (edge g) }
 {
-    let mut r = row::none();
-    for i in row::members(s) {
-        let reached = row::or(r, g[i]);
-        r = reached;
-    }
-    r
+    reached(s, &g)
 }
 
 // a, then b.
@@ -97,7 +104,7 @@ pub fn then(a: Grid, b: Grid) -> Grid
 {
     let mut h = a;
     for i in 0..64 {
-        h[i] = image(a[i], b);
+        h[i] = reached(a[i], &b);
     }
     h
 }
@@ -172,7 +179,7 @@ pub fn column(g: Grid, j: usize) -> Row
     requires { j < 64 }
     ensures { bit result ≡ inverse (edge g) j }
 {
-    passing(|i| has(g, i, j))
+    passing(|i| row::has(g[i], j))
 }
 
 // The relation the other way round.

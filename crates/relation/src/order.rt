@@ -18,7 +18,7 @@ pub fn order(g: Grid, s: Row) -> Events
     let before = grid::inverse(g);
     let mut left = s;
     let mut events = Events::new();
-    while let Some(k) = next_of(before, left) {
+    while let Some(k) = next_of(&before, left) {
         events.push(k as u8);
         let rest = row::without(left, k);
         left = rest;
@@ -27,8 +27,8 @@ pub fn order(g: Grid, s: Row) -> Events
 }
 
 // The smallest of the events left that none of them precedes, where there is one.
-fn next_of(before: Grid, left: Row) -> Option<usize>
-    ensures { result ≡ smallest (ready (inverse (edge before)) (bit left)) }
+fn next_of(before: &Grid, left: Row) -> Option<usize>
+    ensures { result ≡ smallest (ready (inverse (edge before.now)) (bit left)) }
 {
     for k in row::members(left) {
         if row::is_empty(row::and(before[k], left)) {

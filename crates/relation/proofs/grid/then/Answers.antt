@@ -10,7 +10,7 @@ loop-i-init c = mapped_start (search rules) (λ m h. image_out _ _)
 
 pub loop-i-preserved : goal.loop-i-preserved
 unfolding edge
-loop-i-preserved c = mapped_more c.loop-i.invariant c.loop-i-test.true _ c.image.ensures
+loop-i-preserved c = mapped_more c.loop-i.invariant c.loop-i-test.true _ c.reached.ensures
 
 pub returns : goal.returns
 unfolding compose

@@ -1,8 +1,8 @@
--- `grid::image` meets its contract, member by member.
+-- `grid::reached` meets its contract, member by member.
 use Rattle.relation.specs.Rel.{members}
 use Rattle.relation.specs.Bits.{on, bit, edge}
 use Rattle.relation.proofs.GridLaws.{Reached}
-use Rattle.relation.proofs.grid.image.Given as goal
+use Rattle.relation.proofs.grid.reached.Given as goal
 
 abbrev pub invariant-loop-i : goal.invariant-loop-i
 invariant-loop-i l =
