@@ -1,6 +1,7 @@
 -- `answered` meets its contract, by cases.
 use mathlib.Core.Path.{ap, subst, ◌∙◌}
 use Prim.Native.Nat.{ℕ, ◌≤◌}
+use native.Mathlib.Omega.{arith}
 use Rattle.std.specs.Prelude.{Result, IfOk}
 use Rattle.refusal.specs.declared.Refusal.{Refusal}
 use Rattle.output.specs.Output.{Fills}
@@ -9,7 +10,7 @@ use Rattle.probe.proofs.ProbeLaws.{stored_ok, stored_err}
 use Rattle.probe.proofs.answered.Goals as goal
 
 pub coded-requires : goal.coded-requires
-coded-requires c = subst (λ (r : Result ℕ Refusal). IfOk r (λ n. n ≤ 1458)) c.in-Ok.is c.requires
+coded-requires c = omega (arith, subst (λ (r : Result ℕ Refusal). IfOk r (λ n. n ≤ 1458)) c.in-Ok.is c.requires)
 
 pub returns-in-Ok : goal.returns-in-Ok
 returns-in-Ok c = λ k bytes out left w. stored_ok (subst (λ (r : Result ℕ Refusal). Fills k bytes out r left) c.in-Ok.is w) c.coded.ensures
