@@ -1,7 +1,7 @@
 -- What the functions that read links ask of a file.
 use Rattle.std.specs.Prelude.{◌≡◌, Bool, true, ◌&&◌, List, ℕ, ◌≤◌, leb, ltb}
-use Rattle.layout.specs.Layout.{events, links, link_byte, Sized}
-use Rattle.layout.specs.Chains.{all_of, links_into}
+use Rattle.layout.specs.Layout.{events, links, link_byte, link_start, Sized}
+use Rattle.layout.specs.Chains.{follow, next_link, all_of, links_into}
 
 -- A link record that lies within the file.
 unfoldable pub within : List ℕ → ℕ → Bool
@@ -20,3 +20,13 @@ pub record Readable (f : List ℕ) : Type 0 where
 pub record Chained (f : List ℕ) : Type 0 where
   pub sized : Sized f
   pub chains : (b : ℕ) → 1 ≤ b → b ≤ events f → all_of (links_into f b) (within f) ≡ true
+
+-- The links that are met from link x on, of which at most n are followed.
+abbrev pub links_from : List ℕ → ℕ → ℕ → List ℕ
+links_from f n x = follow (links f) (next_link f) n x
+
+-- A walk along links: their records begin at `from`, link x is the next, and those that are left lie within the file.
+pub record Walk (f : List ℕ) (from n x : ℕ) : Type 0 where
+  pub sized : Sized f
+  pub begins : from ≡ link_start f
+  pub inside : all_of (links_from f n x) (within f) ≡ true

@@ -6,7 +6,6 @@ ghost use Rattle.relation.specs.Rel.{nodes, inverse};
 ghost use Rattle.models.specs.Recording.{Recording};
 ghost use Rattle.models.specs.Graph.{base};
 ghost use Rattle.layout.specs.Layout.{events, links, Sized};
-ghost use Rattle.layout.specs.Chains.{all_of, links_into};
 ghost use Rattle.layout.specs.Decode.{decode};
 ghost use Rattle.reading.specs.Readable.{Chained};
 ghost use Rattle.recording.specs.Causes.{one_source, link_sound, links_sound_at};
@@ -37,23 +36,20 @@ pub fn sound(file: &[u8], po: &Grid, m: usize, b: usize) -> bool
     legal::link_sound(file, row::has(after, b), m, b)
 }
 
-// Whether each of the links into b is.
-pub fn each_sound(file: &[u8], po: &Grid, b: usize) -> bool
-    requires { Chained file.now × (edge po.now ≡ (base nodes (decode file.now)).po) × (1 ≤ b) × (b ≤ events file.now) }
-    ensures { result ≡ all_of (links_into file.now b) (link_sound file.now b) }
-{
-    let links = links::into(file, b);
-    links
-        .as_slice()
-        .iter()
-        .all(|m| sound(file, po, *m as usize, b))
-}
-
 // Whether the links into b are sound, and b has one rf source.
-#[tactic(auto, using(crate::proofs::LegalLaws::legal_tests), unfolding(crate::specs::Causes::links_sound_at))]
 pub fn sound_into(file: &[u8], po: &Grid, b: usize) -> bool
     requires { Chained file.now × (edge po.now ≡ (base nodes (decode file.now)).po) × (1 ≤ b) × (b ≤ events file.now) }
     ensures { result ≡ links_sound_at file.now b }
 {
-    each_sound(file, po, b) && one_source(links::sources(file, b, 1))
+    let mut sources = row::none();
+    for m in links::into(file, b) {
+        if !sound(file, po, m, b) {
+            return false;
+        }
+        if field::link_byte(file, m, 1) == 1 {
+            let more = row::with(sources, field::link_byte(file, m, 2));
+            sources = more;
+        }
+    }
+    one_source(sources)
 }

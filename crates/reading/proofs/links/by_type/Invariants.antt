@@ -1,8 +1,7 @@
--- `links::by_type` meets its contract, link by link.
-use lib.ListN.{take}
-use Rattle.layout.specs.Layout.{Sized}
-use Rattle.reading.proofs.LinkLaws.{Listed, Sorted}
+-- `links::by_type` meets its contract: those sorted and those left are all.
+use Rattle.reading.specs.Readable.{readable}
+use Rattle.reading.proofs.LinkLaws.{Ahead, Sorted}
 use Rattle.reading.proofs.links.by_type.Given as goal
 
-abbrev pub invariant-loop-link : goal.invariant-loop-link
-invariant-loop-link l = Sized l.file × Listed l.file l.b l.link-items × Sorted l.file (take l.link-index l.link-items) l.rows
+abbrev pub invariant-loop-m : goal.invariant-loop-m
+invariant-loop-m l = Ahead l.file (readable l.file) l.b l.m-iterator × Sorted l.file l.b l.m-iterator l.rows

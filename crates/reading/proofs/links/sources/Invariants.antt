@@ -1,9 +1,8 @@
--- `links::sources` meets its contract, link by link.
-use lib.ListN.{take}
+-- `links::sources` meets its contract: those taken and those left are all.
 use Rattle.relation.specs.Bits.{bit}
-use Rattle.layout.specs.Layout.{Sized}
-use Rattle.reading.proofs.LinkLaws.{Listed, Gathered}
+use Rattle.reading.specs.Readable.{readable}
+use Rattle.reading.proofs.LinkLaws.{Ahead, Taken}
 use Rattle.reading.proofs.links.sources.Given as goal
 
-abbrev pub invariant-loop-link : goal.invariant-loop-link
-invariant-loop-link l = Sized l.file × Listed l.file l.b l.link-items × Gathered l.file l.t (take l.link-index l.link-items) (bit l.row)
+abbrev pub invariant-loop-m : goal.invariant-loop-m
+invariant-loop-m l = Ahead l.file (readable l.file) l.b l.m-iterator × Taken l.file l.t l.b l.m-iterator (bit l.row)
