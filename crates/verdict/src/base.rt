@@ -12,7 +12,7 @@ use relation::grid;
 use relation::grid::Grid;
 use relation::row::Row;
 
-#[derive(Drop)]
+#[derive(Clone, Copy)]
 pub struct Base {
     pub events: Row,
     pub initial: Row,

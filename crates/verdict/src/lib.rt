@@ -42,7 +42,7 @@ impl Rule {
 }
 
 // The first broken rule, and the events that break it.
-#[derive(Drop)]
+#[derive(Clone, Drop)]
 pub struct Broken {
     pub rule: Rule,
     pub events: Events,
