@@ -1,20 +1,17 @@
 -- Laws of the names of clauses, by their numbers, and of the line of a step.
 use mathlib.Core.Bool.{Bool, true, ◌&&◌}
 use mathlib.Core.Path.{◌≡◌, refl, sym, ap, ◌∙◌}
-use mathlib.Core.Logic.{◌⊎◌, inl, inr}
 use mathlib.Core.List.{List, [], ◌∷◌, ◌++◌, map, append_assoc, append-nil}
-use Prim.Native.Nat.{ℕ, zero, suc, ◌+◌, ◌-◌, ◌<◌, ◌≤◌}
+use Prim.Native.Nat.{ℕ, zero, suc, ◌-◌, ◌<◌, ◌≤◌}
+use native.Mathlib.Decide.{ℕ_discrete}
 use native.Mathlib.Omega.{arith}
-use borrow.Author.Tests.{ltb-true}
+use borrow.Author.Tests.{ne_eqb, ltb-true}
 use lib.Dec.{ltb}
 use lib.ListN.{length, get_or}
 use Rattle.std.specs.Borrow.{Bor}
 use Rattle.relation.proofs.Truth.{and_left, and_right}
 use Rattle.models.specs.Clause.{Clause, name}
 use Rattle.models.specs.Why.{Clauses, clauses_of}
-use Rattle.verdict.specs.Verdict.{number}
-use Rattle.verdict.specs.declared.Rule.{Rule}
-use Rattle.verdict.specs.declared.Rule.TheVariants.{Reads, Writes, Coherence, Atomicity, Acyclicity}
 use Rattle.decimal.specs.Decimal.{decimal}
 use Rattle.lines.specs.declared.Model.{Model}
 use Rattle.lines.specs.declared.Model.TheVariants.{Source, Chip, Tso}
@@ -66,12 +63,13 @@ module _ (cs : List Clause) (texts : List (Bor (List ℕ))) (w : Names cs texts)
   unnamed (suc n) h =
       sym (get_none (names cs) n (omega (arith, sym (ap length w) ∙ map_length (λ (s : Bor (List ℕ)). s.now) texts))) ∙ sym (name_nth cs n)
 
--- The rules that show no ring have no clauses.
-pub no_names : (C : Clauses) (r : Rule) → (r ≡ Reads) ⊎ ((r ≡ Writes) ⊎ (r ≡ Atomicity)) → [] ≡ names (clauses_of C (number r))
+-- A rule that shows no ring has no clauses.
+no_clauses : (C : Clauses) (n : ℕ) → (n ≡ 3 → ⊥) → (n ≡ 5 → ⊥) → clauses_of C n ≡ []
 unfolding clauses_of
-no_names C r (inl e) = sym (ap (λ (q : Rule). names (clauses_of C (number q))) e)
-no_names C r (inr (inl e)) = sym (ap (λ (q : Rule). names (clauses_of C (number q))) e)
-no_names C r (inr (inr e)) = sym (ap (λ (q : Rule). names (clauses_of C (number q))) e)
+no_clauses C n d e = rw (ne_eqb n 3 d, ne_eqb n 5 e, clauses_of) refl
+
+pub no_names : (C : Clauses) (n : ℕ) → (n ≡ 3 → ⊥) → (n ≡ 5 → ⊥) → [] ≡ names (clauses_of C n)
+no_names C n d e = sym (ap names (no_clauses C n d e))
 
 -- No name is longer than 28 bytes.
 abbrev short : List Clause → Bool
@@ -85,26 +83,20 @@ short_name (c ∷ cs) h zero = omega arith
 short_name (c ∷ cs) h (suc zero) = omega (arith, ltb-true _ 29 (and_left (ltb (length (ascii (name c))) 29) (short cs) h))
 short_name (c ∷ cs) h (suc (suc n)) = short_name cs (and_right (ltb (length (ascii (name c))) 29) (short cs) h) (suc n)
 
-all_short : (m : Model) (r : Rule) → short (clauses_of (clauses_for m) (number r)) ≡ true
-unfolding clauses_of bytes_from
-all_short Source Reads = refl
-all_short Source Writes = refl
-all_short Source Coherence = refl
-all_short Source Atomicity = refl
-all_short Source Acyclicity = refl
-all_short Chip Reads = refl
-all_short Chip Writes = refl
-all_short Chip Coherence = refl
-all_short Chip Atomicity = refl
-all_short Chip Acyclicity = refl
-all_short Tso Reads = refl
-all_short Tso Writes = refl
-all_short Tso Coherence = refl
-all_short Tso Atomicity = refl
-all_short Tso Acyclicity = refl
+short_rule : (C : Clauses) (n : ℕ) → short C.rule3 ≡ true → short C.rule5 ≡ true → Dec (n ≡ 3) → Dec (n ≡ 5) → short (clauses_of C n) ≡ true
+unfolding clauses_of
+short_rule C n three five (yes q) d = ap (λ (j : ℕ). short (clauses_of C j)) q ∙ three
+short_rule C n three five (no q) (yes s) = ap (λ (j : ℕ). short (clauses_of C j)) s ∙ five
+short_rule C n three five (no q) (no s) = ap short (no_clauses C n q s)
 
-pub name_short : (m : Model) (r : Rule) (n : ℕ) → length (name_of (clauses_of (clauses_for m) (number r)) n) ≤ 28
-name_short m r n = short_name _ (all_short m r) n
+all_short : (m : Model) (n : ℕ) → short (clauses_of (clauses_for m) n) ≡ true
+unfolding bytes_from
+all_short Source n = short_rule (clauses_for Source) n refl refl (ℕ_discrete n 3) (ℕ_discrete n 5)
+all_short Chip n = short_rule (clauses_for Chip) n refl refl (ℕ_discrete n 3) (ℕ_discrete n 5)
+all_short Tso n = short_rule (clauses_for Tso) n refl refl (ℕ_discrete n 3) (ℕ_discrete n 5)
+
+pub name_short : (m : Model) (rule n : ℕ) → length (name_of (clauses_of (clauses_for m) rule) n) ≤ 28
+name_short m rule n = short_name _ (all_short m rule) n
 
 -- The parts of the line of a step, put one behind the other.
 pub line_put : (word : List ℕ) (cs : List Clause) (step : List ℕ) {w n t₀ t₁ t₂ t₃ t₄ t₅ t₆ : List ℕ} → t₀ ≡ [] → w ≡ word → t₁ ≡ t₀ ++ w

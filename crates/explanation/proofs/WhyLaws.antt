@@ -60,14 +60,15 @@ module _ {C : Clauses} {word : List ℕ} {r : Recording ℕ} {v : Verdict} {befo
       }
 
   -- and one that is broken the lines of the steps too.
-  pub ring_reasons : {broken : Broken} {steps shown : List (List ℕ)} {after : List ℕ} → v ≡ Err broken → Explained (clauses_of C (rule_of v)) r (ring v) steps
-      → shown ≡ steps → after ≡ first ++ step_lines word (clauses_of C (number broken.rule)) shown → Reasons C word r v before after
-  ring_reasons {broken} {steps} is w s q =
+  pub ring_reasons : {broken : Broken} {k : ℕ} {steps shown : List (List ℕ)} {after : List ℕ} → v ≡ Err broken → k ≡ number broken.rule → Explained (clauses_of C (rule_of v)) r (ring v) steps
+      → shown ≡ steps → after ≡ first ++ step_lines word (clauses_of C k) shown → Reasons C word r v before after
+  ring_reasons {broken} {k} {steps} {shown} is n w s q =
       let lines = step_lines word (clauses_of C (number broken.rule)) steps in
       record {
         steps = steps;
         explained = w;
         prints = q
+            ∙ ap (λ (j : ℕ). first ++ step_lines word (clauses_of C j) shown) n
             ∙ ap (λ (l : List (List ℕ)). first ++ step_lines word (clauses_of C (number broken.rule)) l) s
             ∙ ap (λ (l : List ℕ). l ++ lines) (p ∙ ap (λ (l : List ℕ). before ++ l) e)
             ∙ append_assoc before (line_for word v) lines

@@ -11,7 +11,6 @@ ghost use Rattle.layout.specs.Layout.{source};
 ghost use Rattle.layout.specs.Decode.{decode};
 ghost use Rattle.recording.specs.Load.{LoadsAs};
 ghost use Rattle.recording.specs.Input.{ReadOf};
-ghost use Rattle.verdict.specs.Verdict.{number};
 ghost use Rattle.execution.specs.OnFile.{OnRecording};
 ghost use Rattle.lines.specs.Lines.{model_word};
 ghost use Rattle.verdicts.specs.ByModel.{side_for, model_for, clauses_for, JudgedFor};
@@ -19,19 +18,22 @@ ghost use Rattle.explanation.specs.StepLine.{step_lines};
 ghost use Rattle.explanation.specs.Why.{Reasons, SourceWhy, PrintsWhy};
 
 use arrayvec::ArrayVec;
-use judgement::{of_source, translated};
-use lines::{Model, line};
+use judgement::{line, of_source, translated};
+use lines::Model;
 use recording::{INPUT, causes};
-use verdict::{Rule, Verdict};
+use verdict::Verdict;
 
-// The lines of a file: three of at most 320 bytes, and under each 64 of at most 44.
-pub type Explanation = ArrayVec<u8, 9408>;
+// Room for the lines of a file: three of at most 320 bytes, and under each 64 of at most 44.
+pub const MOST: usize = 9408;
 
-// Adds the lines of the steps of the ring of a broken rule, at most 44 bytes each.
-fn put_steps(text: &mut Explanation, model: Model, rule: Rule, steps: &[[u8; 3]])
+// The lines of a file.
+pub type Explanation = ArrayVec<u8, MOST>;
+
+// Adds the lines of the steps of the ring of a broken rule by its number, at most 44 bytes each.
+fn put_steps(text: &mut Explanation, model: Model, rule: u8, steps: &[[u8; 3]])
     requires { array_vec_len text.old + 44 * length steps.now ≤ 9408 }
     ensures put { text.new.items
-        ≡ text.old.items ++ step_lines (model_word model) (clauses_of (clauses_for model) (number rule)) steps.now }
+        ≡ text.old.items ++ step_lines (model_word model) (clauses_of (clauses_for model) rule) steps.now }
     ensures short { array_vec_len text.new ≤ array_vec_len text.old + 44 * length steps.now }
 {
     for step in steps {
@@ -52,7 +54,7 @@ fn reason(text: &mut Explanation, model: Model, file: &[u8], verdict: &Verdict)
         return;
     };
     let steps = verdicts::explained(model, file, verdict);
-    put_steps(text, model, broken.rule, steps.as_slice());
+    put_steps(text, model, broken.rule.number(), steps.as_slice());
 }
 
 // What is printed of a source file that loads.

@@ -3,13 +3,11 @@
 ghost use Rattle.std.specs.Prelude.{◌≡◌, ◌≤◌, length};
 ghost use Rattle.arrayvec.specs.ArrayVec.{array_vec_len};
 ghost use Rattle.models.specs.Why.{clauses_of};
-ghost use Rattle.verdict.specs.Verdict.{number};
 ghost use Rattle.lines.specs.Lines.{model_word};
 ghost use Rattle.verdicts.specs.ByModel.{clauses_for};
 ghost use Rattle.explanation.specs.StepLine.{Names, name_of, step_line};
 
 use lines::{Model, Text, put_number, put_word, word};
-use verdict::Rule;
 
 // The names of the clauses of IMM's rule 3.
 const IMM_STEPS: [&str; 7] = ["po", "sw", "rf", "co", "co;rf", "fr", "fr;rf"];
@@ -84,20 +82,20 @@ fn order_names(model: Model) -> &'static [&'static str]
     }
 }
 
-// The names of the clauses of a model's rule, in their order: the other rules have none.
-fn names(model: Model, rule: Rule) -> &'static [&'static str]
-    ensures { Names (clauses_of (clauses_for model) (number rule)) result.now }
+// The names of the clauses of a model's rule by its number, in their order: the other rules have none.
+fn names(model: Model, rule: u8) -> &'static [&'static str]
+    ensures { Names (clauses_of (clauses_for model) rule) result.now }
 {
     match rule {
-        Rule::Coherence => coherence_names(model),
-        Rule::Acyclicity => order_names(model),
-        Rule::Reads | Rule::Writes | Rule::Atomicity => &[],
+        3 => coherence_names(model),
+        5 => order_names(model),
+        _ => &[],
     }
 }
 
 // The name of a clause of a model's rule by its number, from 1 on; no byte for a number that no clause has.
-fn name(model: Model, rule: Rule, n: u8) -> &'static [u8]
-    ensures name { result.now ≡ name_of (clauses_of (clauses_for model) (number rule)) n }
+fn name(model: Model, rule: u8, n: u8) -> &'static [u8]
+    ensures name { result.now ≡ name_of (clauses_of (clauses_for model) rule) n }
     ensures short { length result.now ≤ 28 }
 {
     let names = names(model, rule);
@@ -108,9 +106,9 @@ fn name(model: Model, rule: Rule, n: u8) -> &'static [u8]
     names[n - 1].as_bytes()
 }
 
-// The line of a step of a ring under a rule of a model.
-pub fn line(model: Model, rule: Rule, step: [u8; 3]) -> Text
-    ensures line { result.items ≡ step_line (model_word model) (clauses_of (clauses_for model) (number rule)) step }
+// The line of a step of a ring under a rule of a model by its number, which may be any.
+pub fn line(model: Model, rule: u8, step: [u8; 3]) -> Text
+    ensures line { result.items ≡ step_line (model_word model) (clauses_of (clauses_for model) rule) step }
     ensures short { array_vec_len result ≤ 44 }
 {
     let mut text = Text::new();

@@ -10,10 +10,11 @@ ghost use Rattle.recording.specs.Load.{LoadsAs};
 ghost use Rattle.recording.specs.Input.{ReadOf};
 ghost use Rattle.verdict.specs.Verdict.{rule_of};
 ghost use Rattle.translation.specs.Translation.{translation};
-ghost use Rattle.judgement.specs.Judgement.{OnSource, OnChip, OnTso, Prints};
+ghost use Rattle.lines.specs.Lines.{model_word};
+ghost use Rattle.judgement.specs.Judgement.{OnSource, OnChip, OnTso, line_for, Prints};
 
 use arrayvec::ArrayVec;
-use lines::{Model, line};
+use lines::{Model, Text};
 use recording::{INPUT, causes};
 use verdict::Verdict;
 
@@ -25,8 +26,11 @@ pub struct Verdicts {
     pub tso: Verdict,
 }
 
-// The lines of a file: three, of at most 320 bytes each.
-pub type Lines = ArrayVec<u8, 960>;
+// Room for the lines of a file: three, of at most 320 bytes each.
+pub const MOST: usize = 960;
+
+// The lines of a file.
+pub type Lines = ArrayVec<u8, MOST>;
 
 // The translation of a source file that loads.
 pub type Translation = ArrayVec<u8, 1320>;
@@ -66,6 +70,16 @@ pub fn of_source(file: &[u8]) -> Verdicts
         source: imm::judge(&base),
         chip: chip(file),
         tso: tso::judge(&base),
+    }
+}
+
+// The line of a model's verdict.
+pub fn line(model: Model, verdict: &Verdict) -> Text
+    ensures { result.items ≡ line_for (model_word model) verdict.now }
+{
+    match verdict {
+        Ok(events) => lines::line(model, 0, events.as_slice()),
+        Err(broken) => lines::line(model, broken.rule.number(), broken.events.as_slice()),
     }
 }
 

@@ -1,7 +1,7 @@
 -- Laws of numbers in a line: a number below 1000 in decimal is what std prints and has at most three digits; numbers, each with a space before it.
-use mathlib.Core.Path.{◌≡◌, sym, ap, ◌∙◌}
+use mathlib.Core.Path.{◌≡◌, refl, sym, ap, ◌∙◌}
 use mathlib.Core.List.{List, [], ◌∷◌, ◌++◌, map, append_assoc, append-nil}
-use Prim.Native.Nat.{ℕ, ◌/◌, ◌%◌, ◌<◌, ◌≤◌, ◌+◌}
+use Prim.Native.Nat.{ℕ, zero, suc, ◌/◌, ◌%◌, ◌<◌, ◌≤◌, ◌+◌}
 use native.Mathlib.Numerals.{add-one}
 use native.Mathlib.Omega.{arith}
 use native.Mathlib.Decide.{dec_lt}
@@ -11,9 +11,6 @@ use Rattle.std.specs.Fmt as std
 use Rattle.std.proofs.lemmas.Fmt.{decimal_digit, decimal_step}
 use Rattle.decimal.specs.Decimal.{digit, decimal}
 use Rattle.decimal.proofs.DecimalLaws.{decimal1, decimal2, decimal3}
-use Rattle.verdict.specs.Verdict.{number}
-use Rattle.verdict.specs.declared.Rule.{Rule}
-use Rattle.verdict.specs.declared.Rule.TheVariants.{Reads, Writes, Coherence, Atomicity, Acyclicity}
 use Rattle.lines.specs.Lines.{allowed, broken, spaced, line_of}
 
 module _ (n : ℕ) where
@@ -59,11 +56,8 @@ pub allowed_parts : (word events : List ℕ) → line_of word 0 events ≡ word 
 unfolding line_of
 allowed_parts word events = simp (append_assoc)
 
-pub broken_parts : (word : List ℕ) (r : Rule) (events : List ℕ)
-    → line_of word (number r) events ≡ word ++ ((32 ∷ broken) ++ ((32 ∷ decimal (number r)) ++ (spaced (map decimal events) ++ (10 ∷ []))))
+pub broken_parts : (word : List ℕ) (k : ℕ) (events : List ℕ) → (k ≡ 0 → ⊥)
+    → line_of word k events ≡ word ++ ((32 ∷ broken) ++ ((32 ∷ decimal k) ++ (spaced (map decimal events) ++ (10 ∷ []))))
 unfolding line_of
-broken_parts word Reads events = simp (append_assoc)
-broken_parts word Writes events = simp (append_assoc)
-broken_parts word Coherence events = simp (append_assoc)
-broken_parts word Atomicity events = simp (append_assoc)
-broken_parts word Acyclicity events = simp (append_assoc)
+broken_parts word zero events d = absurd (d refl)
+broken_parts word (suc k) events d = simp (append_assoc)

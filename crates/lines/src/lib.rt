@@ -2,15 +2,13 @@
 
 #![tactic(auto)]
 
-ghost use Rattle.std.specs.Prelude.{◌≡◌, [], ◌∷◌, ◌++◌, map, ◌+◌, ◌*◌, ◌<◌, ◌≤◌, length};
+ghost use Rattle.std.specs.Prelude.{◌≡◌, ◌∷◌, ◌++◌, map, ◌+◌, ◌*◌, ◌≤◌, length};
 ghost use Rattle.arrayvec.specs.ArrayVec.{array_vec_len};
 ghost use Rattle.decimal.specs.Decimal.{decimal};
-ghost use Rattle.verdict.specs.Verdict.{rule_of, events};
 ghost use Rattle.lines.specs.Lines.{model_word, spaced, line_of, refusal_line};
 
 use arrayvec::ArrayVec;
 use itoa::Buffer;
-use verdict::Verdict;
 
 // The model that a line is of: IMM or x86-TSO on a source recording, ARMv8 on a chip recording.
 #[derive(Clone, Copy, Debug, PartialEq, Eq, Hash)]
@@ -61,14 +59,6 @@ fn put_numbers(text: &mut Text, numbers: &[u8])
     }
 }
 
-// Ends the line.
-fn end(text: &mut Text)
-    requires { array_vec_len text.old < 320 }
-    ensures { text.new.items ≡ text.old.items ++ 10 ∷ [] }
-{
-    text.push(b'\n');
-}
-
 // The model's word.
 pub fn word(model: Model) -> &'static [u8]
     ensures { result.now ≡ model_word model }
@@ -80,24 +70,22 @@ pub fn word(model: Model) -> &'static [u8]
     }
 }
 
-// The line of a model's verdict.
-pub fn line(model: Model, verdict: &Verdict) -> Text
-    ensures { result.items ≡ line_of (model_word model) (rule_of verdict.now) (events verdict.now) }
+// The line of a model's verdict, by the number of the broken rule, or 0 where none is, and the events that are shown.
+pub fn line(model: Model, rule: u8, events: &[u8]) -> Text
+    requires { length events.now ≤ 64 }
+    ensures line { result.items ≡ line_of (model_word model) rule events.now }
+    ensures bounded { array_vec_len result ≤ 320 }
 {
     let mut text = Text::new();
     put_word(&mut text, word(model));
-    match verdict {
-        Ok(events) => {
-            put_word(&mut text, b" allowed");
-            put_numbers(&mut text, events.as_slice());
-        }
-        Err(broken) => {
-            put_word(&mut text, b" broken");
-            put_number(&mut text, broken.rule.number());
-            put_numbers(&mut text, broken.events.as_slice());
-        }
+    if rule == 0 {
+        put_word(&mut text, b" allowed");
+    } else {
+        put_word(&mut text, b" broken");
+        put_number(&mut text, rule);
     }
-    end(&mut text);
+    put_numbers(&mut text, events);
+    text.push(b'\n');
     text
 }
 
@@ -105,11 +93,11 @@ pub fn line(model: Model, verdict: &Verdict) -> Text
 pub fn refused(number: u8) -> Text
     ensures { result.items ≡ refusal_line number }
 {
-    let mut text = Text::new();
-    put_word(&mut text, b"refused");
-    put_number(&mut text, number);
-    end(&mut text);
-    text
+    let mut line = Text::new();
+    put_word(&mut line, b"refused");
+    put_number(&mut line, number);
+    line.push(b'\n');
+    line
 }
 
 // Adds a line to lines.

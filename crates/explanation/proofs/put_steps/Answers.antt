@@ -3,7 +3,6 @@ use native.Mathlib.Omega.{arith}
 use mathlib.Core.Path.{ap, ◌∙◌}
 use lib.ListN.{length}
 use Rattle.models.specs.Why.{clauses_of}
-use Rattle.verdict.specs.Verdict.{number}
 use Rattle.lines.specs.Lines.{model_word}
 use Rattle.verdicts.specs.ByModel.{clauses_for}
 use Rattle.explanation.specs.StepLine.{step_line}
@@ -21,7 +20,7 @@ pub loop-step-preserved : goal.loop-step-preserved
 loop-step-preserved c =
     let put = where_ok c.try_extend_from_slice.ensures.ok c.unwrap.ensures in
     let size = where_ok c.try_extend_from_slice.ensures.len c.unwrap.ensures in (
-      lines_more (step_line (model_word c.args.model) (clauses_of (clauses_for c.args.model) (number c.args.rule))) c.args.steps.now c.loop-step.step-index _
+      lines_more (step_line (model_word c.args.model) (clauses_of (clauses_for c.args.model) c.args.rule)) c.args.steps.now c.loop-step.step-index _
           (search rules) c.loop-step.invariant.0 put (c.as_slice.ensures.value ∙ c.line-line.ensures.line),
       omega (arith, c.loop-step.invariant.1, size, c.line-line.ensures.short, ap length c.as_slice.ensures.value),
     )

@@ -2,7 +2,6 @@
 use Rattle.std.proofs.Common.{◌≡◌, ◌++◌, ◌+◌, ◌*◌, ◌≤◌, take}
 use Rattle.arrayvec.specs.ArrayVec.{array_vec_len}
 use Rattle.models.specs.Why.{clauses_of}
-use Rattle.verdict.specs.Verdict.{number}
 use Rattle.lines.specs.Lines.{model_word}
 use Rattle.verdicts.specs.ByModel.{clauses_for}
 use Rattle.explanation.specs.StepLine.{step_lines}
@@ -11,5 +10,5 @@ use Rattle.explanation.proofs.put_steps.Given as goal
 abbrev pub invariant-loop-step : goal.invariant-loop-step
 invariant-loop-step l =
     (l.text.items
-    ≡ l.initial.text.items ++ step_lines (model_word l.model) (clauses_of (clauses_for l.model) (number l.rule)) (take l.step-index l.steps))
+    ≡ l.initial.text.items ++ step_lines (model_word l.model) (clauses_of (clauses_for l.model) l.rule) (take l.step-index l.steps))
     × (array_vec_len l.text ≤ array_vec_len l.initial.text + 44 * l.step-index)

@@ -11,7 +11,7 @@ put_steps-requires c = omega (arith, c.add.ensures.short, c.as_slice.ensures.fit
 
 pub returns-clause-put : goal.returns-clause-put
 returns-clause-put c =
-    ring_reasons c.add.ensures.added c.line.ensures c.in-Err.is c.explained-steps.ensures c.as_slice.ensures.value c.put_steps.ensures.put
+    ring_reasons c.add.ensures.added c.line.ensures c.in-Err.is c.number.ensures c.explained-steps.ensures c.as_slice.ensures.value c.put_steps.ensures.put
 
 pub returns-clause-short : goal.returns-clause-short
 returns-clause-short c = omega (arith, c.put_steps.ensures.short, c.add.ensures.short, c.as_slice.ensures.fits)

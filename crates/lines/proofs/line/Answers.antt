@@ -3,32 +3,29 @@ use mathlib.Core.List.{append_assoc}
 use Rattle.lines.specs.Lines.{model_word}
 use Rattle.lines.proofs.LineLaws.{allowed_parts, broken_parts}
 use Rattle.lines.proofs.line.Goals as goal
-use Rattle.lines.proofs.line.Goals.{in-Ok, in-Err}
+use Rattle.lines.proofs.line.Goals.{then-rule-eq0, else-rule-eq0}
 
-pub returns : goal.returns
-returns c =
-    elim c.match-verdict.branch [
-      | in-Ok w ↦ rw (w.in-Ok.is, allowed_parts (model_word c.args.model) w.in-Ok.events.items)
+pub returns-clause-line : goal.returns-clause-line
+returns-clause-line c =
+    elim c.if-rule-eq0.branch [
+      | then-rule-eq0 w ↦ rw (w.if-rule-eq0.true, allowed_parts (model_word c.args.model) c.args.events.now)
           (simp (
-            c.end.ensures,
+            c.push.ensures.items,
+            c.put_numbers.ensures.put,
             w.text-is,
-            w.put_numbers.ensures.put,
-            w.as_slice.ensures.value,
-            w.put_word-in-Ok.ensures,
+            w.put_word-then-rule-eq0.ensures,
             c.put_word.ensures,
             c.word.ensures,
             c.new-text.ensures,
             append_assoc,
           ))
-      | in-Err w ↦ rw (w.in-Err.is, broken_parts (model_word c.args.model) w.in-Err.broken.rule w.in-Err.broken.events.items)
+      | else-rule-eq0 w ↦ rw (broken_parts (model_word c.args.model) c.args.rule c.args.events.now w.if-rule-eq0.false)
           (simp (
-            c.end.ensures,
+            c.push.ensures.items,
+            c.put_numbers.ensures.put,
             w.text-is,
-            w.put_numbers-in-Err.ensures.put,
-            w.as_slice-in-Err.ensures.value,
             w.put_number.ensures.put,
-            w.number.ensures,
-            w.put_word-in-Err.ensures,
+            w.put_word-else-rule-eq0.ensures,
             c.put_word.ensures,
             c.word.ensures,
             c.new-text.ensures,

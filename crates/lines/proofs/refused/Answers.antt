@@ -6,4 +6,4 @@ use Rattle.lines.proofs.refused.Goals as goal
 pub returns : goal.returns
 unfolding refusal_line
 returns c =
-    simp (c.end.ensures, c.put_number.ensures.put, c.put_word.ensures, c.new-text.ensures, append_assoc)
+    simp (c.push.ensures.items, c.put_number.ensures.put, c.put_word.ensures, c.new-line.ensures, append_assoc)
