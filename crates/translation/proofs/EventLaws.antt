@@ -105,26 +105,25 @@ module _ (f : List ℕ) where
       → b ≡ strong (contents f) w && eqb (inserted (contents f) w) e
   fence_no s e w b p q = and_no b (strong (contents f) w) (eqb (inserted (contents f) w) e) (p ∙ flagged_decoded f s 2 w) q
 
-  -- The record of an inserted fence, and of a recorded event.
-  module _ (e next first : ℕ) (p : next ≡ after (contents f) e)
-      (q : first ≡ chained (links_up_to (chip f) e) (links_before (chip f) (512 * e))) where
-    pub record_made : events f < e → next ∷ 3 ∷ 5 ∷ 0 ∷ 0 ∷ 0 ∷ 0 ∷ first ∷ [] ≡ event_record (chip f) e
-    unfolding event_record translated contents
-    record_made h =
-        let c = contents f in
-        let made : (v : ℕ → ℕ) (new : ℕ) → kept_or c v new e ≡ new = λ v new. law.made c v new e h in
-        cc (made c.class 3, made (new_mode c) 5, made (new_flag c) 0, made c.location 0, made c.low 0, made c.high 0)
-
-    pub record_kept : (class mode flag location low high : ℕ) → e ≤ events f → class ≡ event_byte f e 1 → mode ≡ new_mode (contents f) e
-        → flag ≡ new_flag (contents f) e → location ≡ event_byte f e 4 → low ≡ event_byte f e 5 → high ≡ event_byte f e 6
-        → next ∷ class ∷ mode ∷ flag ∷ location ∷ low ∷ high ∷ first ∷ [] ≡ event_record (chip f) e
-    unfolding event_record translated contents
-    record_kept class mode flag location low high h a b d g i j =
-        let c = contents f in
-        let kept : (v : ℕ → ℕ) (new : ℕ) → kept_or c v new e ≡ v e = λ v new. law.kept c v new e h in
-        cc (kept c.class 3, kept (new_mode c) 5, kept (new_flag c) 0, kept c.location 0, kept c.low 0, kept c.high 0)
+  -- The record of an event, byte by byte.
+  pub record_is : (e : ℕ) {next class mode flag location low high first : ℕ} → let c = contents f in
+      let byte : ℕ → ℕ → ℕ = λ k x. event_byte f x k in
+      next ≡ after c e → class ≡ kept_or c (byte 1) 3 e → mode ≡ kept_or c (new_mode c) 5 e → flag ≡ kept_or c (new_flag c) 0 e
+      → location ≡ kept_or c (byte 4) 0 e → low ≡ kept_or c (byte 5) 0 e → high ≡ kept_or c (byte 6) 0 e
+      → first ≡ chained (links_up_to (chip f) e) (links_before (chip f) (512 * e))
+      → next ∷ class ∷ mode ∷ flag ∷ location ∷ low ∷ high ∷ first ∷ [] ≡ event_record (chip f) e
+  unfolding event_record translated contents
+  record_is e a b d g h i j k = cc
 
   -- What the records say, by cases.
+  pub fence_has : (v : ℕ → ℕ) (new e n : ℕ) → n ≡ events f → n < e → new ≡ kept_or (contents f) v new e
+  unfolding contents
+  fence_has v new e n p h = sym (law.made (contents f) v new e (omega arith))
+
+  pub event_keeps : (v : ℕ → ℕ) (new e n x : ℕ) → n ≡ events f → e ≤ n → x ≡ v e → x ≡ kept_or (contents f) v new e
+  unfolding contents
+  event_keeps v new e n x p h q = q ∙ sym (law.kept (contents f) v new e (omega arith))
+
   pub mode_stays : (e m k : ℕ) → m ≡ event_byte f e 2 → k ≡ event_byte f e 1 → (k ≡ 3 → ⊥) → m ≡ new_mode (contents f) e
   unfolding contents
   mode_stays e m k p q d = p ∙ sym (law.mode_access (contents f) e (λ r. d (q ∙ r)))

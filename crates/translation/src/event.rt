@@ -2,9 +2,9 @@
 
 ghost use Rattle.std.specs.Prelude.{◌≡◌, ◌&&◌, ◌+◌, ◌*◌, ◌≤◌, ◌<◌, eqb, unwrap_or, IfSome};
 ghost use Rattle.relation.specs.Rel.{count};
-ghost use Rattle.layout.specs.Layout.{events};
+ghost use Rattle.layout.specs.Layout.{event_byte};
 ghost use Rattle.translation.specs.Contents.{contents};
-ghost use Rattle.translation.specs.Translate.{strong, inserted, new_events, fenced, after, new_mode, new_flag};
+ghost use Rattle.translation.specs.Translate.{strong, inserted, new_events, fenced, after, kept_or, new_mode, new_flag};
 ghost use Rattle.translation.specs.Encode.{chained, links_before, links_up_to, event_record};
 ghost use Rattle.translation.specs.Translation.{chip};
 ghost use Rattle.translation.specs.Parts.{Source, NewEvent};
@@ -79,11 +79,25 @@ pub fn after(file: &[u8], e: usize) -> usize
     field::event_byte(file, e, 0)
 }
 
-// The mode that a recorded event is given: that of a read or write stays, fence 1 becomes 5, fences 2, 3, 4 become 6.
-fn new_mode(file: &[u8], e: usize) -> usize
-    requires { Source file.now × (1 ≤ e) × (e ≤ events file.now) }
-    ensures { (result ≡ new_mode (contents file.now) e) × (result < 256) }
+// Byte k of the record of e, or what an inserted fence has.
+pub fn kept_or(file: &[u8], e: usize, k: usize, new: usize) -> usize
+    requires { Source file.now × (1 ≤ e) × (k < 8) × (new < 256) }
+    ensures { (result ≡ kept_or (contents file.now) (λ x. event_byte file.now x k) new e) × (result < 256) }
 {
+    if field::events(file) < e {
+        return new;
+    }
+    field::event_byte(file, e, k)
+}
+
+// The mode: that of a read or write stays, fence 1 becomes 5, fences 2, 3, 4 become 6, an inserted fence has 5.
+pub fn new_mode(file: &[u8], e: usize) -> usize
+    requires { Source file.now × (1 ≤ e) }
+    ensures { (result ≡ kept_or (contents file.now) (new_mode (contents file.now)) 5 e) × (result < 256) }
+{
+    if field::events(file) < e {
+        return 5;
+    }
     let mode = field::event_byte(file, e, 2);
     if field::event_byte(file, e, 1) != 3 {
         return mode;
@@ -94,34 +108,33 @@ fn new_mode(file: &[u8], e: usize) -> usize
     6
 }
 
-// The flag that a recorded event is given: that of a strong write becomes 0.
-fn new_flag(file: &[u8], e: usize) -> usize
-    requires { Source file.now × (1 ≤ e) × (e ≤ events file.now) }
-    ensures { (result ≡ new_flag (contents file.now) e) × (result < 256) }
+// The flag: that of a strong write becomes 0, an inserted fence has 0.
+pub fn new_flag(file: &[u8], e: usize) -> usize
+    requires { Source file.now × (1 ≤ e) }
+    ensures { (result ≡ kept_or (contents file.now) (new_flag (contents file.now)) 0 e) × (result < 256) }
 {
+    if field::events(file) < e {
+        return 0;
+    }
     if field::is_flagged(file, e, 2) {
         return 0;
     }
     field::event_byte(file, e, 3)
 }
 
-// The record of event e, whose first link is given: that of a recorded event with its new mode and flag, or that of a fence of mode 5.
+// The record of event e, whose first link is given.
 pub fn record(file: &[u8], e: usize, first: usize) -> [u8; 8]
     requires { Source file.now × NewEvent (contents file.now) e × (first < 256) × (first ≡ chained (links_up_to (chip file.now) e) (links_before (chip file.now) (512 * e))) }
     ensures { result ≡ event_record (chip file.now) e }
 {
-    let next = after(file, e) as u8;
-    if field::events(file) < e {
-        return [next, 3, 5, 0, 0, 0, 0, first as u8];
-    }
     [
-        next,
-        field::event_byte(file, e, 1) as u8,
+        after(file, e) as u8,
+        kept_or(file, e, 1, 3) as u8,
         new_mode(file, e) as u8,
         new_flag(file, e) as u8,
-        field::event_byte(file, e, 4) as u8,
-        field::event_byte(file, e, 5) as u8,
-        field::event_byte(file, e, 6) as u8,
+        kept_or(file, e, 4, 0) as u8,
+        kept_or(file, e, 5, 0) as u8,
+        kept_or(file, e, 6, 0) as u8,
         first as u8,
     ]
 }

@@ -9,7 +9,7 @@ loop-b-init c = let pre = c.requires in ending_start _ _ pre.0.source pre.1
 
 pub links_up_to-m-requires : goal.links_up_to-m-requires
 links_up_to-m-requires c =
-    let w = c.loop-b.invariant.counted in (c.requires.0, event_counted _ _ _ _ w c.loop-b-test.true, w.same)
+    let w = c.loop-b.invariant.counted in (c.requires.0, event_counted _ _ _ _ w (omega (arith, c.loop-b-test.true)), w.same)
 
 pub bounds-at-b : goal.bounds-at-b
 bounds-at-b c = omega (arith, c.loop-b-test.true, c.requires.1, most_events_lem _ c.requires.0.source)
@@ -29,4 +29,4 @@ pub returns-2 : goal.returns-2
 returns-2 c =
     let all = ending_more _ _ _ _ _ _ c.loop-b.invariant (omega (arith, c.loop-b-test.true, c.requires.1, most_events_lem _ c.requires.0.source))
     c.links_up_to-m.ensures.0 in
-    ending_all _ _ _ _ _ all (omega (arith, c.if-b-n.false))
+    ending_all _ _ _ _ _ all (omega arith)
