@@ -3,7 +3,7 @@ use mathlib.Core.Path.{◌≡◌, sym, subst}
 use mathlib.Core.List.{List}
 use Prim.Native.Nat.{ℕ, ◌≤◌}
 use native.Mathlib.Omega.{arith}
-use lib.ListN.{length, take}
+use lib.ListN.{length}
 use Rattle.std.specs.Prelude.{Result, Ok, IsOk}
 use Rattle.layout.specs.Layout.{source, chip}
 use Rattle.recording.specs.Load.{LoadsAs, cause_for}
