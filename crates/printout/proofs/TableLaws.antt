@@ -11,13 +11,15 @@ use borrow.Author.Tests.{lt-ltb, le-ltb}
 use lib.Dec.{eqb}
 use Rattle.std.specs.Ordering.{nat_cmp, ord_max, is_lt}
 use Rattle.std.specs.declared.cmp.Ordering.TheVariants.{Equal, Greater}
-use lib.ListN.{length, get_or, set, length-set, length-append, length-take, get_or-append}
+use Rattle.std.proofs.lemmas.List.{take_all}
+use lib.ListN.{length, get_or, set, take, length-set, length-append, length-take, get_or-append}
 use lib.Seq.{get_or-set_same, get_or-set_other, get_or-take, get_or-append-add}
 use Rattle.layout.specs.Layout.{side, events, threads}
 use Rattle.layout.specs.Chains.{met, thread, threads_up_to}
 use Rattle.layout.proofs.FieldLaws.{most_in_thread_18}
 use Rattle.recording.specs.Causes.{refusal}
 use Rattle.recording.proofs.Accepted.{sized, threads_sound_lem, thread_length}
+use Rattle.reading.specs.Sets.{Line}
 use Rattle.reading.proofs.ThreadLaws.{few_events, thread_at}
 use Rattle.printout.specs.Page.{longest, thread_lists}
 use Rattle.printout.specs.Table.{Starts, Table}
@@ -140,6 +142,11 @@ upto_at f t k (suc n) h g =
           ∙ upto_at f t k n (omega (arith, d)) g
     ]
 
+-- A table of which the whole list is the line.
+pub whole_line : (f at starts : List ℕ) → Line f threads at → Starts f starts threads → Table f at starts
+whole_line f at starts line begins =
+    record { len = length at; line = subst (Line f threads) (sym (take_all (length at) at (omega arith))) line; begins = begins }
+
 -- In a table the event at place k of thread t stands k places behind the thread's start, if the next thread starts later.
 module _ (f at starts : List ℕ) (loads : refusal f ≡ 0) (w : Table f at starts) (t : ℕ) (h : t < threads) where
   next_start : get_or starts (t + 1) 0 ≡ get_or starts t 0 + length (thread f t)
@@ -157,10 +164,14 @@ module _ (f at starts : List ℕ) (loads : refusal f ≡ 0) (w : Table f at star
       pub present : k < length (thread f t)
       present = omega (arith, next_start)
 
+      within : get_or starts t 0 + k < length (take w.len at)
+      within = omega (arith, w.begins.start (t + 1) (omega arith), upto_grows f (t + 1) threads (omega arith), ap length w.line.listed)
+
       pub in_line : get_or starts t 0 + k < length at
-      in_line = omega (arith, w.begins.start (t + 1) (omega arith), upto_grows f (t + 1) threads (omega arith), ap length w.line.listed)
+      in_line = omega (arith, within, length-take w.len at)
 
       pub event_is : get_or at (get_or starts t 0 + k) 0 ≡ get_or (thread f t) k 0
       event_is =
-          ap₂ (λ (l : List ℕ) (i : ℕ). get_or l i 0) w.line.listed (ap (λ (n : ℕ). n + k) (w.begins.start t (omega arith)))
+          sym (get_or-take w.len at (get_or starts t 0 + k) 0 (omega (arith, within, length-take w.len at)))
+          ∙ ap₂ (λ (l : List ℕ) (i : ℕ). get_or l i 0) w.line.listed (ap (λ (n : ℕ). n + k) (w.begins.start t (omega arith)))
           ∙ upto_at f t k threads h present

@@ -1,5 +1,6 @@
 -- `written` meets its contract: refused before anything is written, or written line by line.
 use Rattle.recording.proofs.Accepted.{sized, threads_sound_lem}
+use Rattle.printout.proofs.TableLaws.{whole_line}
 use Rattle.printout.proofs.PageCall.{page_short, page_written}
 use Rattle.printout.proofs.written.Goals as goal
 
@@ -12,7 +13,7 @@ line-events-requires c = let pre = c.requires in (sized _ pre, threads_sound_lem
 pub lines-requires : goal.lines-requires
 lines-requires c = (
   c.requires,
-  record { line = rw c.as_slice.ensures.value c.line-events.ensures; begins = c.starts-starts.ensures },
+  whole_line _ _ _ (rw c.as_slice.ensures.value c.line-events.ensures) c.starts-starts.ensures,
   c.longest-n.ensures.1,
   c.if-out-length.false,
 )
