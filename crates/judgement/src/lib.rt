@@ -19,7 +19,7 @@ use recording::{INPUT, causes};
 use verdict::Verdict;
 
 // The verdicts on a source file: of IMM, of ARMv8 on its translation, and of x86-TSO.
-#[derive(Drop)]
+#[derive(Clone, Drop)]
 pub struct Verdicts {
     pub source: Verdict,
     pub chip: Verdict,
