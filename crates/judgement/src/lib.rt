@@ -42,8 +42,8 @@ pub fn translated(file: &[u8]) -> Translation
 {
     let mut bytes = [0u8; 1320];
     let n = translation::written(file, &mut bytes).unwrap();
-    let mut translated = Translation::new();
-    translated.try_extend_from_slice(&bytes[..n]).unwrap();
+    let mut translated = Translation::from(bytes);
+    translated.truncate(n);
     translated
 }
 

@@ -32,8 +32,8 @@ fn starred(file: &[u8], verdict: &Verdict) -> Page
 {
     let mut bytes = [0u8; MOST];
     let n = printout::written(file, ring_of(verdict), &mut bytes).unwrap();
-    let mut page = Page::new();
-    page.try_extend_from_slice(&bytes[..n]).unwrap();
+    let mut page = Page::from(bytes);
+    page.truncate(n);
     page
 }
 

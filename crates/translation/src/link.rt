@@ -70,12 +70,6 @@ pub fn ctrl(file: &[u8]) -> Grid
     ensures { edge result ≡ ctrl_into (contents file.now) }
 {
     let kept = graph::links(file, 6);
-    let exclusive = by_rows(
-        |e|
-            requires { Source file.now }
-            ensures { bit result ≡ from_exclusive (contents file.entry.now) e }
-        { from_exclusive(file, e) },
-    );
     let following = by_rows(
         |e|
             requires { Source file.now }
@@ -83,6 +77,12 @@ pub fn ctrl(file: &[u8]) -> Grid
         { following(file, e) },
     );
     let casdep = grid::then(graph::links(file, 7), following);
+    let exclusive = by_rows(
+        |e|
+            requires { Source file.now }
+            ensures { bit result ≡ from_exclusive (contents file.entry.now) e }
+        { from_exclusive(file, e) },
+    );
     grid::inverse(grid::or(kept, grid::or(exclusive, casdep)))
 }
 

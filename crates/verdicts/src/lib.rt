@@ -94,11 +94,15 @@ pub fn explained(model: Model, file: &[u8], verdict: &Verdict) -> Steps
     requires { LoadsAs (side_for model) file.now × OnRecording (model_for model) (JudgedFor model) (decode file.now) verdict.now }
     ensures { Explained (clauses_of (clauses_for model) (rule_of verdict.now)) (decode file.now) (ring verdict.now) result.items }
 {
+    if clause::ring_of(verdict).is_empty() {
+        return Steps::new();
+    }
+    let base = execution::base(file);
     match verdict {
         Ok(_) => Steps::new(),
         Err(broken) => match broken.rule {
-            Rule::Coherence => coherence_steps(model, &execution::base(file), verdict),
-            Rule::Acyclicity => order_steps(model, &execution::base(file), verdict),
+            Rule::Coherence => coherence_steps(model, &base, verdict),
+            Rule::Acyclicity => order_steps(model, &base, verdict),
             Rule::Reads | Rule::Writes | Rule::Atomicity => Steps::new(),
         },
     }
