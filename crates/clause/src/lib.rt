@@ -10,13 +10,13 @@ ghost use Rattle.models.specs.Clause.{Clause, number_from, unions};
 ghost use Rattle.verdict.specs.Base.{base_of};
 ghost use Rattle.clause.specs.Steps.{ring, steps_of, Held, StepsBy};
 
-use arrayvec::ArrayVec;
 use relation::grid;
 use relation::grid::Grid;
+use sequence::Sequence;
 use verdict::{Rule, Verdict, base};
 
 // The steps of a ring: two events and the number of a clause.
-pub type Steps = ArrayVec<[u8; 3], 64>;
+pub type Steps = Sequence<[u8; 3], 64>;
 
 // The union of the clauses.
 pub fn union(clauses: &[Grid]) -> Grid

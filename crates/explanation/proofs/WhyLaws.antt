@@ -3,24 +3,19 @@ use mathlib.Core.Path.{◌≡◌, refl, sym, ap, subst, ◌∙◌}
 use mathlib.Core.List.{List, [], ◌∷◌, ◌++◌, map, append_assoc, append-nil}
 use Prim.Native.Nat.{ℕ, ◌+◌, ◌<◌}
 use native.Mathlib.Numerals.{add-one}
-use native.Mathlib.Omega.{arith}
 use lib.ListN.{length, get_or, take}
 use lib.Seq.{take-suc}
-use Rattle.std.specs.Prelude.{Ok, Err}
-use Rattle.arrayvec.specs.ArrayVec.{ArrayVec}
 use Rattle.models.specs.Recording.{Recording}
-use Rattle.models.specs.Clause.{Clause}
 use Rattle.models.specs.Why.{Clauses, clauses_of, imm_rings, armv8_rings, tso_rings}
 use Rattle.layout.specs.Decode.{decode}
-use Rattle.verdict.specs.Verdict.{Verdict, number, rule_of}
-use Rattle.verdict.specs.declared.Broken.{Broken}
-use Rattle.clause.specs.Steps.{joined, ring, steps_to, Explained}
+use Rattle.verdict.specs.Verdict.{Verdict, rule_of}
+use Rattle.clause.specs.Steps.{joined, ring, Explained}
 use Rattle.translation.specs.Translation.{translation}
 use Rattle.lines.specs.Lines.{source, chip, tso}
 use Rattle.judgement.specs.Judgement.{OnSource, OnChip, OnTso, line_for}
 use Rattle.judgement.proofs.PrintLaws.{source_lines}
 use Rattle.explanation.specs.StepLine.{step_lines}
-use Rattle.explanation.specs.Why.{Reasoned, Reasons, SourceWhy}
+use Rattle.explanation.specs.Why.{Reasoned, SourceWhy}
 
 joined_last : (f : List ℕ → List ℕ) (ls : List (List ℕ)) (l : List ℕ) → joined (map f (ls ++ (l ∷ []))) ≡ joined (map f ls) ++ f l
 joined_last f [] l = append-nil (f l)
@@ -33,11 +28,6 @@ joined_more f ls k h =
     ∙ ap (λ (l : List (List ℕ)). joined (map f l)) (take-suc ls k [] h)
     ∙ joined_last f (take k ls) (get_or ls k [])
 
--- An allowed verdict shows no ring, and needs no step.
-pub none_explained : (cs : List Clause) (r : Recording ℕ) (all : ArrayVec ℕ) → Explained cs r (ring (Ok all)) []
-unfolding ring steps_to
-none_explained cs r all = record { number = λ a b. 0; first = λ k h. absurd (omega arith); are = refl }
-
 -- The line of a step more.
 pub lines_more : (f : List ℕ → List ℕ) (steps : List (List ℕ)) (k : ℕ) (before : List ℕ) {text line after : List ℕ} → k < length steps
     → text ≡ before ++ joined (map f (take k steps)) → after ≡ text ++ line → line ≡ f (get_or steps k [])
@@ -49,31 +39,31 @@ lines_more f steps k before {line = line} h p q e =
     ∙ ap (λ (l : List ℕ). before ++ (joined (map f (take k steps)) ++ l)) e
     ∙ ap (λ (l : List ℕ). before ++ l) (sym (joined_more f steps k h))
 
-module _ {C : Clauses} {word : List ℕ} {r : Recording ℕ} {v : Verdict} {before first line : List ℕ} (p : first ≡ before ++ line) (e : line ≡ line_for word v) where
-  -- A verdict that is allowed has its line alone,
-  pub none_reasons : {all : ArrayVec ℕ} → v ≡ Ok all → Reasons C word r v before first
-  none_reasons {all} is =
-      record {
-        steps = [];
-        explained = subst (λ (v : Verdict). Explained (clauses_of C (rule_of v)) r (ring v) []) (sym is) (none_explained _ r all);
-        prints = p ∙ ap (λ (l : List ℕ). before ++ l) (e ∙ sym (append-nil (line_for word v)));
-      }
+-- The line of a verdict, and behind it the lines of the steps.
+pub line_and_steps : (C : Clauses) (word before : List ℕ) (v : Verdict) (steps : List (List ℕ)) {first line after : List ℕ} {k : ℕ}
+    → first ≡ before ++ line → line ≡ line_for word v → k ≡ rule_of v → after ≡ first ++ step_lines word (clauses_of C k) steps
+    → after ≡ before ++ (line_for word v ++ step_lines word (clauses_of C (rule_of v)) steps)
+line_and_steps C word before v steps {first} p e n q =
+    q
+    ∙ ap (λ (j : ℕ). first ++ step_lines word (clauses_of C j) steps) n
+    ∙ ap (λ (l : List ℕ). l ++ step_lines word (clauses_of C (rule_of v)) steps) (p ∙ ap (λ (l : List ℕ). before ++ l) e)
+    ∙ append_assoc before (line_for word v) (step_lines word (clauses_of C (rule_of v)) steps)
 
-  -- and one that is broken the lines of the steps too.
-  pub ring_reasons : {broken : Broken} {k : ℕ} {steps shown : List (List ℕ)} {after : List ℕ} → v ≡ Err broken → k ≡ number broken.rule → Explained (clauses_of C (rule_of v)) r (ring v) steps
-      → shown ≡ steps → after ≡ first ++ step_lines word (clauses_of C k) shown → Reasons C word r v before after
-  ring_reasons {broken} {k} {steps} {shown} is n w s q =
-      let lines = step_lines word (clauses_of C (number broken.rule)) steps in
-      record {
-        steps = steps;
-        explained = w;
-        prints = q
-            ∙ ap (λ (j : ℕ). first ++ step_lines word (clauses_of C j) shown) n
-            ∙ ap (λ (l : List (List ℕ)). first ++ step_lines word (clauses_of C (number broken.rule)) l) s
-            ∙ ap (λ (l : List ℕ). l ++ lines) (p ∙ ap (λ (l : List ℕ). before ++ l) e)
-            ∙ append_assoc before (line_for word v) lines
-            ∙ ap (λ (n : ℕ). before ++ (line_for word v ++ step_lines word (clauses_of C n) steps)) (sym (ap rule_of is));
-      }
+-- The text gains the line of the verdict v on the recording r, and under it the lines of the steps of its ring.
+pub record Reasons (C : Clauses) (word : List ℕ) (r : Recording ℕ) (v : Verdict) (before after : List ℕ) : Type 0 where
+  pub steps : List (List ℕ)
+  pub explained : Explained (clauses_of C (rule_of v)) r (ring v) steps
+  pub prints : after ≡ before ++ (line_for word v ++ step_lines word (clauses_of C (rule_of v)) steps)
+
+pub reasons : {C : Clauses} {word : List ℕ} {r : Recording ℕ} {v : Verdict} {before after : List ℕ} {steps shown : List (List ℕ)}
+    → Explained (clauses_of C (rule_of v)) r (ring v) steps → shown ≡ steps
+    → after ≡ before ++ (line_for word v ++ step_lines word (clauses_of C (rule_of v)) shown) → Reasons C word r v before after
+reasons {C} {word} {v = v} {before} {steps = steps} w s p =
+    record {
+      steps = steps;
+      explained = w;
+      prints = p ∙ ap (λ (l : List (List ℕ)). before ++ (line_for word v ++ step_lines word (clauses_of C (rule_of v)) l)) s;
+    }
 
 -- The text alone.
 reasoned : {On : List ℕ → Verdict → Type 0} {C : Clauses} {word f text before after : List ℕ} {v : Verdict} → On f v

@@ -2,7 +2,6 @@
 use Rattle.std.specs.Prelude.{◌≡◌, List, ◌++◌, ℕ}
 use Rattle.models.specs.Why.{Clauses, clauses_of, imm_rings, armv8_rings, tso_rings}
 use Rattle.layout.specs.Decode.{decode}
-use Rattle.models.specs.Recording.{Recording}
 use Rattle.verdict.specs.Verdict.{Verdict, rule_of}
 use Rattle.clause.specs.Steps.{ring, Explained}
 use Rattle.translation.specs.Translation.{translation}
@@ -18,12 +17,6 @@ pub record Reasoned (On : List ℕ → Verdict → Type 0) (C : Clauses) (word f
   pub steps : List (List ℕ)
   pub explained : Explained (clauses_of C (rule_of verdict)) (decode f) (ring verdict) steps
   pub prints : text ≡ line_for word verdict ++ step_lines word (clauses_of C (rule_of verdict)) steps
-
--- The text gains the line of the verdict v on the recording r, and under it the lines of the steps of its ring.
-pub record Reasons (C : Clauses) (word : List ℕ) (r : Recording ℕ) (v : Verdict) (before after : List ℕ) : Type 0 where
-  pub steps : List (List ℕ)
-  pub explained : Explained (clauses_of C (rule_of v)) r (ring v) steps
-  pub prints : after ≡ before ++ (line_for word v ++ step_lines word (clauses_of C (rule_of v)) steps)
 
 -- Of a source recording, in the order of the judge's lines.
 pub record SourceWhy (f text : List ℕ) : Type 0 where

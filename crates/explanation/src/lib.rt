@@ -5,56 +5,51 @@
 pub mod step;
 
 ghost use Rattle.std.specs.Prelude.{◌≡◌, List, ◌++◌, ℕ, ◌+◌, ◌*◌, ◌≤◌, length};
-ghost use Rattle.arrayvec.specs.ArrayVec.{array_vec_len};
 ghost use Rattle.models.specs.Why.{clauses_of};
 ghost use Rattle.layout.specs.Layout.{source};
-ghost use Rattle.layout.specs.Decode.{decode};
 ghost use Rattle.recording.specs.Load.{LoadsAs};
 ghost use Rattle.recording.specs.Input.{ReadOf};
-ghost use Rattle.execution.specs.OnFile.{OnRecording};
+ghost use Rattle.verdict.specs.Verdict.{rule_of};
 ghost use Rattle.lines.specs.Lines.{model_word};
-ghost use Rattle.verdicts.specs.ByModel.{side_for, model_for, clauses_for, JudgedFor};
+ghost use Rattle.verdicts.specs.ByModel.{clauses_for};
 ghost use Rattle.explanation.specs.StepLine.{step_lines};
-ghost use Rattle.explanation.specs.Why.{Reasons, SourceWhy, PrintsWhy};
+ghost use Rattle.judgement.specs.Judgement.{line_for};
+ghost use Rattle.explanation.specs.Why.{SourceWhy, PrintsWhy};
 
-use arrayvec::ArrayVec;
 use judgement::{line, of_source, translated};
 use lines::Model;
 use recording::{INPUT, causes};
+use sequence::Sequence;
 use verdict::Verdict;
 
 // Room for the lines of a file: three of at most 320 bytes, and under each 64 of at most 44.
 pub const MOST: usize = 9408;
 
 // The lines of a file.
-pub type Explanation = ArrayVec<u8, MOST>;
+pub type Explanation = Sequence<u8, MOST>;
 
 // Adds the lines of the steps of the ring of a broken rule by its number, at most 44 bytes each.
 fn put_steps(text: &mut Explanation, model: Model, rule: u8, steps: &[[u8; 3]])
-    requires { array_vec_len text.old + 44 * length steps.now ≤ 9408 }
+    requires { length text.old.items + 44 * length steps.now ≤ 9408 }
     ensures put { text.new.items
         ≡ text.old.items ++ step_lines (model_word model) (clauses_of (clauses_for model) rule) steps.now }
-    ensures short { array_vec_len text.new ≤ array_vec_len text.old + 44 * length steps.now }
+    ensures short { length text.new.items ≤ length text.old.items + 44 * length steps.now }
 {
     for step in steps {
         let line = step::line(model, rule, *step);
-        text.try_extend_from_slice(line.as_slice()).unwrap();
+        text.extend_from_slice(line.as_slice());
     }
 }
 
-// Adds the line of the verdict of a model on a file, and those of the steps of its ring.
-fn reason(text: &mut Explanation, model: Model, file: &[u8], verdict: &Verdict)
-    requires room { array_vec_len text.old + 3136 ≤ 9408 }
-    requires judged { LoadsAs (side_for model) file.now × OnRecording (model_for model) (JudgedFor model) (decode file.now) verdict.now }
-    ensures put { Reasons (clauses_for model) (model_word model) (decode file.now) verdict.now text.old.items text.new.items }
-    ensures short { array_vec_len text.new ≤ array_vec_len text.old + 3136 }
+// Adds the line of the verdict of a model, and those of the steps of its ring.
+fn reason(text: &mut Explanation, model: Model, verdict: &Verdict, steps: &[[u8; 3]])
+    requires { (length text.old.items + 3136 ≤ 9408) × (length steps.now ≤ 64) }
+    ensures put { text.new.items ≡ text.old.items ++ (line_for (model_word model) verdict.now
+        ++ step_lines (model_word model) (clauses_of (clauses_for model) (rule_of verdict.now)) steps.now) }
+    ensures short { length text.new.items ≤ length text.old.items + 3136 }
 {
     lines::add(text, &line(model, verdict));
-    let Err(broken) = verdict else {
-        return;
-    };
-    let steps = verdicts::explained(model, file, verdict);
-    put_steps(text, model, broken.rule.number(), steps.as_slice());
+    put_steps(text, model, verdict::rule_of(verdict), steps);
 }
 
 // What is printed of a source file that loads.
@@ -62,12 +57,15 @@ fn printed_source(file: &[u8]) -> Explanation
     requires { LoadsAs source file.now }
     ensures { SourceWhy file.now result.items }
 {
-    let verdicts = of_source(file);
+    let judged = of_source(file);
     let chip_file = translated(file);
+    let source = verdicts::explained(Model::Source, file, &judged.source);
+    let chip = verdicts::explained(Model::Chip, chip_file.as_slice(), &judged.chip);
+    let tso = verdicts::explained(Model::Tso, file, &judged.tso);
     let mut text = Explanation::new();
-    reason(&mut text, Model::Source, file, &verdicts.source);
-    reason(&mut text, Model::Chip, chip_file.as_slice(), &verdicts.chip);
-    reason(&mut text, Model::Tso, file, &verdicts.tso);
+    reason(&mut text, Model::Source, &judged.source, source.as_slice());
+    reason(&mut text, Model::Chip, &judged.chip, chip.as_slice());
+    reason(&mut text, Model::Tso, &judged.tso, tso.as_slice());
     text
 }
 
@@ -85,8 +83,9 @@ pub fn printed(file: &[u8]) -> Explanation
         return printed_source(file);
     }
     let verdict = verdicts::loaded(Model::Chip, file);
+    let steps = verdicts::explained(Model::Chip, file, &verdict);
     let mut text = Explanation::new();
-    reason(&mut text, Model::Chip, file, &verdict);
+    reason(&mut text, Model::Chip, &verdict, steps.as_slice());
     text
 }
 

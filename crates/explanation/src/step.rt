@@ -1,7 +1,6 @@
 // The line of a step of a ring: the model's word, the two events, the name of the clause.
 
 ghost use Rattle.std.specs.Prelude.{◌≡◌, ◌≤◌, length};
-ghost use Rattle.arrayvec.specs.ArrayVec.{array_vec_len};
 ghost use Rattle.models.specs.Why.{clauses_of};
 ghost use Rattle.lines.specs.Lines.{model_word};
 ghost use Rattle.verdicts.specs.ByModel.{clauses_for};
@@ -82,7 +81,8 @@ fn order_names(model: Model) -> &'static [&'static str]
     }
 }
 
-// The names of the clauses of a model's rule by its number, in their order: the other rules have none.
+// The names of the clauses of a model's rule by its number, in their order: those of 3, coherence, and of 5, acyclicity; the other rules have
+// none.
 fn names(model: Model, rule: u8) -> &'static [&'static str]
     ensures { Names (clauses_of (clauses_for model) rule) result.now }
 {
@@ -109,7 +109,7 @@ fn name(model: Model, rule: u8, n: u8) -> &'static [u8]
 // The line of a step of a ring under a rule of a model by its number, which may be any.
 pub fn line(model: Model, rule: u8, step: [u8; 3]) -> Text
     ensures line { result.items ≡ step_line (model_word model) (clauses_of (clauses_for model) rule) step }
-    ensures short { array_vec_len result ≤ 44 }
+    ensures short { length result.items ≤ 44 }
 {
     let mut text = Text::new();
     put_word(&mut text, word(model));

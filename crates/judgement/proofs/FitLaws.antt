@@ -1,10 +1,10 @@
 -- Laws of a call that fills an array that is never too short.
-use mathlib.Core.Path.{◌≡◌, refl, subst}
+use mathlib.Core.Path.{◌≡◌, refl}
 use mathlib.Core.List.{List}
 use Prim.Native.Nat.{ℕ, ◌≤◌}
 use native.Mathlib.Omega.{arith}
 use lib.ListN.{length, take}
-use Rattle.std.specs.Prelude.{Result, Ok, Err, IsOk, OnOk}
+use Rattle.std.specs.Prelude.{Result, Ok, Err, IsOk}
 use Rattle.refusal.specs.declared.Refusal.{Refusal}
 use Rattle.output.specs.Output.{Fills}
 use Rattle.output.proofs.FillLaws.{fills_fits, fills_wrote}
@@ -25,7 +25,3 @@ pub written : {k : ℕ} {bytes out : List ℕ} {r : Result ℕ Refusal} {left : 
 written {k} {bytes} {out} {r} {left} w few {n} p =
     let v = fills_wrote k bytes out r left w n p in
     record { few = omega (arith, v.size); within = v.within; begins = v.begins }
-
--- What holds where an answer is no error.
-pub where_ok : {T E : Type 0} {r : Result T E} {a : T} {P : Type 0} → OnOk r P → r ≡ Ok a → P
-where_ok {T} {E} {P = P} p e = subst (λ (r : Result T E). OnOk r P) e p

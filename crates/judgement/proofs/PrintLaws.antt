@@ -1,5 +1,5 @@
 -- Laws of what is printed: what the verdicts of the models say of each other, and the text by what loading answers.
-use mathlib.Core.Path.{◌≡◌, sym, ap, subst, ◌∙◌}
+use mathlib.Core.Path.{◌≡◌, sym, ap, ap₂, subst, ◌∙◌}
 use mathlib.Core.Bool.{false≢true}
 use mathlib.Core.List.{List, [], ◌++◌}
 use mathlib.Core.Logic.{inl, inr}
@@ -11,14 +11,18 @@ use Rattle.recording.specs.Causes.{refusal}
 use Rattle.recording.specs.Load.{Loads, LoadsAs}
 use Rattle.recording.specs.Input.{ReadOf}
 use Rattle.recording.specs.declared.Header.{Header}
-use Rattle.std.specs.Prelude.{Result, Err}
+use Rattle.std.specs.Prelude.{Result, Ok, Err, Some, None}
+use Rattle.sequence.specs.Items.{Items}
 use Rattle.refusal.specs.declared.Refusal.{Refusal}
 use Rattle.refusal.specs.Refusal.{number_of}
 use Rattle.refusal.proofs.RefusalLaws.{err_not_0}
 use Rattle.recording.proofs.Longest.{read_longest, read_of}
-use Rattle.verdict.specs.Verdict.{Verdict, rule_of}
+use Rattle.verdict.specs.Verdict.{Verdict, number, rule_of}
+use Rattle.verdict.specs.declared.Broken.{Broken}
+use Rattle.verdict.proofs.ShownLaws.{number_not_0}
 use Rattle.translation.specs.Translation.{translation}
-use Rattle.lines.specs.Lines.{source, chip, tso, refusal_line}
+use Rattle.lines.specs.Lines.{source, chip, tso, line_by, line_of, refusal_line}
+use Rattle.lines.proofs.LineLaws.{line_by_number}
 use Rattle.soundness.specs.Soundness.{imm_verdict, armv8_verdict, tso_verdict}
 use Rattle.soundness.proofs.Proved.{soundness, tso_soundness}
 use Rattle.judgement.specs.Judgement.{OnSource, OnChip, OnTso, line_for, SourceLines, TextOf}
@@ -44,6 +48,16 @@ pub source_lines : {f text : List ℕ} {v w u : Verdict} → OnSource f v → On
     → text ≡ (line_for source v ++ line_for chip w) ++ line_for tso u → SourceLines f text
 source_lines on on_chip on_tso sound also p =
     record { on_source = _; on_chip = _; on_tso = _; judged = on; judged_chip = on_chip; judged_tso = on_tso; sound = sound; tso_sound = also; prints = p }
+
+-- The line of a verdict by its rule.
+pub allowed_line : (word : List ℕ) {shown text : List ℕ} {v : Verdict} {all : Items ℕ} → v ≡ Ok all → shown ≡ all.items → text ≡ line_by word None shown → text ≡ line_for word v
+unfolding line_of
+allowed_line word is e p = p ∙ ap (line_by word None) e ∙ sym (ap (line_for word) is)
+
+pub broken_line : (word : List ℕ) {shown text : List ℕ} {v : Verdict} {b : Broken} {k : ℕ} → v ≡ Err b → k ≡ number b.rule → shown ≡ b.events.items
+    → text ≡ line_by word (Some k) shown → text ≡ line_for word v
+broken_line word {b = b} is n e p =
+    p ∙ ap₂ (λ (k : ℕ) (l : List ℕ). line_by word (Some k) l) n e ∙ line_by_number word (number b.rule) b.events.items (number_not_0 b.rule) ∙ sym (ap (line_for word) is)
 
 -- A line alone.
 pub alone : {none line text all : List ℕ} → none ≡ [] → all ≡ none ++ line → line ≡ text → all ≡ text

@@ -13,13 +13,13 @@ ghost use Rattle.translation.specs.Translation.{translation};
 ghost use Rattle.lines.specs.Lines.{model_word};
 ghost use Rattle.judgement.specs.Judgement.{OnSource, OnChip, OnTso, line_for, Prints};
 
-use arrayvec::ArrayVec;
 use lines::{Model, Text};
 use recording::{INPUT, causes};
+use sequence::Sequence;
 use verdict::Verdict;
 
 // The verdicts on a source file: of IMM, of ARMv8 on its translation, and of x86-TSO.
-#[derive(Clone, Drop)]
+#[derive(Clone, Copy)]
 pub struct Verdicts {
     pub source: Verdict,
     pub chip: Verdict,
@@ -30,10 +30,10 @@ pub struct Verdicts {
 pub const MOST: usize = 960;
 
 // The lines of a file.
-pub type Lines = ArrayVec<u8, MOST>;
+pub type Lines = Sequence<u8, MOST>;
 
 // The translation of a source file that loads.
-pub type Translation = ArrayVec<u8, 1320>;
+pub type Translation = Sequence<u8, 1320>;
 
 // The translation of a source file that loads, which has at most 1320 bytes.
 pub fn translated(file: &[u8]) -> Translation
@@ -42,9 +42,7 @@ pub fn translated(file: &[u8]) -> Translation
 {
     let mut bytes = [0u8; 1320];
     let n = translation::written(file, &mut bytes).unwrap();
-    let mut translated = Translation::from(bytes);
-    translated.truncate(n);
-    translated
+    Translation::of(bytes, n)
 }
 
 // The verdict on the translation of a source file that loads, and what is shown of it. A translation loads.
@@ -78,8 +76,8 @@ pub fn line(model: Model, verdict: &Verdict) -> Text
     ensures { result.items ≡ line_for (model_word model) verdict.now }
 {
     match verdict {
-        Ok(events) => lines::line(model, 0, events.as_slice()),
-        Err(broken) => lines::line(model, broken.rule.number(), broken.events.as_slice()),
+        Ok(events) => lines::line(model, None, events.as_slice()),
+        Err(broken) => lines::line(model, Some(broken.rule.number()), broken.events.as_slice()),
     }
 }
 

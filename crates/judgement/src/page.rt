@@ -6,14 +6,14 @@ ghost use Rattle.recording.specs.Input.{ReadOf};
 ghost use Rattle.printout.specs.Page.{page};
 ghost use Rattle.judgement.specs.Judgement.{ring_of, PrintsPage};
 
-use arrayvec::ArrayVec;
 use lines::Model;
 use printout::MOST;
 use recording::{INPUT, causes};
+use sequence::Sequence;
 use verdict::Verdict;
 
 // A page: 18 lines of 81 bytes.
-pub type Page = ArrayVec<u8, 1458>;
+pub type Page = Sequence<u8, 1458>;
 
 // The ring of the page that is printed: the events of a broken verdict, and none of an allowed one.
 fn ring_of(verdict: &Verdict) -> &[u8]
@@ -32,9 +32,7 @@ fn starred(file: &[u8], verdict: &Verdict) -> Page
 {
     let mut bytes = [0u8; MOST];
     let n = printout::written(file, ring_of(verdict), &mut bytes).unwrap();
-    let mut page = Page::from(bytes);
-    page.truncate(n);
-    page
+    Page::of(bytes, n)
 }
 
 // What is printed of a file.

@@ -1,5 +1,5 @@
--- Laws of numbers in a line: a number below 1000 in decimal is what std prints and has at most three digits; numbers, each with a space before it.
-use mathlib.Core.Path.{◌≡◌, refl, sym, ap, ◌∙◌}
+-- Laws of lines: the digits of a number below 1000, by how many it has; numbers, each with a space before it; a line by its parts.
+use mathlib.Core.Path.{◌≡◌, refl, sym, ap, ap₂, ◌∙◌}
 use mathlib.Core.List.{List, [], ◌∷◌, ◌++◌, map, append_assoc, append-nil}
 use Prim.Native.Nat.{ℕ, zero, suc, ◌/◌, ◌%◌, ◌<◌, ◌≤◌, ◌+◌}
 use native.Mathlib.Numerals.{add-one}
@@ -7,27 +7,23 @@ use native.Mathlib.Omega.{arith}
 use native.Mathlib.Decide.{dec_lt}
 use lib.ListN.{length, get_or, take}
 use lib.Seq.{take-suc}
-use Rattle.std.specs.Fmt as std
-use Rattle.std.proofs.lemmas.Fmt.{decimal_digit, decimal_step}
+use Rattle.std.specs.Prelude.{Some, None}
 use Rattle.decimal.specs.Decimal.{digit, decimal}
 use Rattle.decimal.proofs.DecimalLaws.{decimal1, decimal2, decimal3}
-use Rattle.lines.specs.Lines.{allowed, broken, spaced, line_of}
+use Rattle.lines.specs.Lines.{allowed, broken, spaced, line_by, line_of}
 
 module _ (n : ℕ) where
-  pub as_std : n < 1000 → std.decimal n ≡ decimal n
-  as_std h =
-      elim (dec_lt n 10) [
-        | yes a ↦ decimal_digit n a ∙ sym (decimal1 n a ∙ ap (λ (d : ℕ). digit d ∷ []) (omega arith))
-        | no a ↦ elim (dec_lt n 100) [
-          | yes b ↦ decimal_step n (omega (arith, a)) (omega (arith, b))
-              ∙ ap (λ (l : List ℕ). l ++ (digit (n % 10) ∷ [])) (decimal_digit (n / 10) (omega (arith, b)))
-              ∙ sym (decimal2 n (omega (arith, a)) b ∙ ap (λ (d : ℕ). digit d ∷ digit (n % 10) ∷ []) (omega (arith, b)))
-          | no b ↦ decimal_step n (omega (arith, b)) (omega (arith, h))
-              ∙ ap (λ (l : List ℕ). l ++ (digit (n % 10) ∷ [])) (decimal_step (n / 10) (omega (arith, b)) (omega (arith, h)))
-              ∙ ap (λ (l : List ℕ). (l ++ (digit (n / 10 % 10) ∷ [])) ++ (digit (n % 10) ∷ [])) (decimal_digit (n / 10 / 10) (omega (arith, h)))
-              ∙ sym (decimal3 n (omega (arith, b)) h ∙ ap (λ (d : ℕ). digit d ∷ digit (n / 10 % 10) ∷ digit (n % 10) ∷ []) (omega (arith, h)))
-        ]
-      ]
+  pub one_digit : (d : ℕ) → n < 10 → d ≡ digit n → decimal n ≡ d ∷ []
+  one_digit d h p = decimal1 n h ∙ ap (λ (x : ℕ). x ∷ []) (omega (arith, p))
+
+  pub two_digits : (d e : ℕ) → 10 ≤ n → n < 100 → d ≡ digit (n / 10) → e ≡ digit (n % 10) → decimal n ≡ d ∷ e ∷ []
+  two_digits d e g h p q = decimal2 n g h ∙ ap₂ (λ (x y : ℕ). x ∷ y ∷ []) (omega (arith, p)) (sym q)
+
+  pub three_digits : (d e f : ℕ) → 100 ≤ n → n < 1000 → d ≡ digit (n / 100) → e ≡ digit (n / 10 % 10) → f ≡ digit (n % 10)
+      → decimal n ≡ d ∷ e ∷ f ∷ []
+  three_digits d e f g h p q r =
+      decimal3 n g h ∙ ap (λ (x : ℕ). x ∷ digit (n / 10 % 10) ∷ digit (n % 10) ∷ []) (omega (arith, p))
+      ∙ ap₂ (λ (x y : ℕ). d ∷ x ∷ y ∷ []) (sym q) (sym r)
 
   pub decimal_short : n < 1000 → length (decimal n) ≤ 3
   decimal_short h =
@@ -52,12 +48,17 @@ spaced_more at k h =
     ∙ spaced_last (take k at) (get_or at k 0)
 
 -- A line, part by part.
-pub allowed_parts : (word events : List ℕ) → line_of word 0 events ≡ word ++ ((32 ∷ allowed) ++ (spaced (map decimal events) ++ (10 ∷ [])))
-unfolding line_of
+pub allowed_parts : (word events : List ℕ) → line_by word None events ≡ word ++ ((32 ∷ allowed) ++ (spaced (map decimal events) ++ (10 ∷ [])))
+unfolding line_by
 allowed_parts word events = simp (append_assoc)
 
-pub broken_parts : (word : List ℕ) (k : ℕ) (events : List ℕ) → (k ≡ 0 → ⊥)
-    → line_of word k events ≡ word ++ ((32 ∷ broken) ++ ((32 ∷ decimal k) ++ (spaced (map decimal events) ++ (10 ∷ []))))
+pub broken_parts : (word : List ℕ) (k : ℕ) (events : List ℕ)
+    → line_by word (Some k) events ≡ word ++ ((32 ∷ broken) ++ ((32 ∷ decimal k) ++ (spaced (map decimal events) ++ (10 ∷ []))))
+unfolding line_by
+broken_parts word k events = simp (append_assoc)
+
+-- The line of a broken rule by its number.
+pub line_by_number : (word : List ℕ) (k : ℕ) (events : List ℕ) → (k ≡ 0 → ⊥) → line_by word (Some k) events ≡ line_of word k events
 unfolding line_of
-broken_parts word zero events d = absurd (d refl)
-broken_parts word (suc k) events d = simp (append_assoc)
+line_by_number word zero events d = absurd (d refl)
+line_by_number word (suc k) events d = refl

@@ -1,5 +1,5 @@
 -- The lines that the judge prints (01, "What is shown"; 02, slip 6), as bytes in ASCII.
-use Rattle.std.specs.Prelude.{List, [], ◌∷◌, ◌++◌, map, ℕ, zero, suc}
+use Rattle.std.specs.Prelude.{List, [], ◌∷◌, ◌++◌, map, ℕ, zero, suc, Option, Some, None}
 use Rattle.decimal.specs.Decimal.{decimal}
 use Rattle.lines.specs.declared.Model.{Model}
 use Rattle.lines.specs.declared.Model.TheVariants.{Source, Chip, Tso}
@@ -43,10 +43,15 @@ parted (w ∷ l) = w ++ spaced l
 abbrev pub ended : List (List ℕ) → List ℕ
 ended fields = parted fields ++ (10 ∷ [])
 
--- "the model, `allowed` or `broken` and the rule, then the events, in decimal": the rule is 0 where none is broken.
+-- "the model, `allowed` or `broken` and the rule, then the events, in decimal", by the broken rule where one is.
+unfoldable pub line_by : List ℕ → Option ℕ → List ℕ → List ℕ
+line_by word None events = ended (word ∷ allowed ∷ map decimal events)
+line_by word (Some k) events = ended (word ∷ broken ∷ map decimal (k ∷ events))
+
+-- The line of a verdict by its number, which is 0 where no rule is broken.
 unfoldable pub line_of : List ℕ → ℕ → List ℕ → List ℕ
-line_of word zero events = ended (word ∷ allowed ∷ map decimal events)
-line_of word (suc k) events = ended (word ∷ broken ∷ map decimal (suc k ∷ events))
+line_of word zero events = line_by word None events
+line_of word (suc k) events = line_by word (Some (suc k)) events
 
 -- "A refusal prints `refused` and its number the same way."
 unfoldable pub refusal_line : ℕ → List ℕ

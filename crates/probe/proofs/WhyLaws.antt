@@ -10,7 +10,7 @@ use Rattle.models.specs.Why.{Clauses, clauses_of}
 use Rattle.layout.specs.Layout.{Side}
 use Rattle.layout.specs.Decode.{decode}
 use Rattle.recording.specs.Causes.{refusal}
-use Rattle.recording.specs.Load.{Loads, LoadsAs, cause_for}
+use Rattle.recording.specs.Load.{Loads, LoadsAs}
 use Rattle.recording.specs.declared.Header.{Header}
 use Rattle.recording.proofs.CauseLaws.{cause_goes_on}
 use Rattle.refusal.specs.Refusal.{number, number_of}

@@ -5,17 +5,17 @@ ghost use Rattle.verdicts.specs.ByModel.{side_for, model_for, clauses_for, Judge
 ghost use Rattle.probe.specs.Calls.{Stored, bytes_of, Explains, cause_for_none};
 
 use crate::{answered, coded};
-use arrayvec::ArrayVec;
 use lines::Model;
 use recording::causes;
 use refusal::Refusal;
+use sequence::Sequence;
 
 // The bytes of the steps of a ring, three of each.
-fn flat(steps: &[[u8; 3]]) -> ArrayVec<u8, 192>
+fn flat(steps: &[[u8; 3]]) -> Sequence<u8, 192>
     requires { length steps.now ≤ 64 }
     ensures { result.items ≡ bytes_of steps.now }
 {
-    let mut bytes = ArrayVec::new();
+    let mut bytes = Sequence::new();
     for step in steps {
         bytes.push(step[0]);
         bytes.push(step[1]);

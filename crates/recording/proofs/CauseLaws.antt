@@ -120,7 +120,7 @@ chained f s p =
       chains = λ b h g. let (seen, w) = chain_fresh (links f) (next_link f) (first_link f) (events f) (b - 1) (omega arith) (and_left _ _ q) in all_within (links f) seen _ w;
     }
 
-pub into_readable : (f : List ℕ) (b : ℕ) → Chained f → 1 ≤ b → b ≤ events f → all_of (links_into f b) (link_sound f b) ≡ true → all_of (links_into f b) (readable f) ≡ true
+into_readable : (f : List ℕ) (b : ℕ) → Chained f → 1 ≤ b → b ≤ events f → all_of (links_into f b) (link_sound f b) ≡ true → all_of (links_into f b) (readable f) ≡ true
 into_readable f b c h g =
     all_of_both (links_into f b) (within f) (link_sound f b) (readable f) (λ m w q. sound_readable f b m c.sized w q) (c.chains b h g)
 

@@ -1,6 +1,6 @@
 -- Laws of the ring routine: its parts together find a ring exactly where there is one.
 use mathlib.Core.Path.{◌≡◌, refl, sym, ap, ap₂, subst, ◌∙◌, fun_ext}
-use mathlib.Core.List.{List, [], ◌∷◌, ◌++◌, reverse, append-nil}
+use mathlib.Core.List.{List, [], ◌∷◌, ◌++◌, reverse}
 use mathlib.Core.Bool.{Bool, true, false, ◌&&◌, false≢true}
 use mathlib.Core.Logic.{◌⊎◌, inl, inr}
 use Prim.Native.Nat.{ℕ, zero, suc, ◌+◌, ◌-◌, ◌<◌, ◌≤◌}
@@ -10,9 +10,8 @@ use native.Mathlib.Decide.{ℕ_discrete, dec_lt}
 use borrow.Author.Count.{below_more}
 use borrow.Author.Tests.{lt-ltb, le-ltb}
 use lib.Dec.{eqb, ltb}
-use lib.ListN.{length, get_or, take, drop, get_or-eq_default, get_or-append, drop_of_length-le}
-use Rattle.std.specs.List.{refill}
-use lib.Seq.{take-length, get_or-take, get_or-append_seam, get_or-append_right, length-take-le}
+use lib.ListN.{length, get_or, take, drop, get_or-eq_default, get_or-append}
+use lib.Seq.{get_or-take, get_or-append_seam, get_or-append_right, length-take-le}
 use Rattle.std.specs.Prelude.{Option, Some, None, IsSome}
 use Rattle.std.proofs.lemmas.List.{length-append, length-drop, length-reverse, get_or-drop, get_or-reverse}
 use Rattle.relation.specs.Rel.{Set, Rel, empty, single, union, intersection, inverse, identity, image, compose, plus, either, diagonal, least, smallest, nodes}
@@ -115,22 +114,15 @@ module _ {h b : Rel} {n x j y : ℕ} {l : List ℕ} (w : Back h b n x j y l) {k 
         ];
       }
 
--- A list written over a list as long.
-refilled : (n : ℕ) (xs ws : List ℕ) → n ≡ length xs → length ws ≡ length xs → refill n xs ws ≡ ws
-refilled n xs ws e l =
-    ap (λ (t : List ℕ). take n (ws ++ t)) (drop_of_length-le xs (omega (arith, l))) ∙ ap (take n) (append-nil ws)
-    ∙ ap (λ (m : ℕ). take m ws) {x = n} {y = length ws} (omega (arith, e, l)) ∙ take-length ws
-
 -- The other way round they are from the first to the last.
-pub back_all : {h b : Rel} {n x k y : ℕ} {l m : List ℕ} → Back h b n x k y l → k ≤ 0 → m ≡ reverse l → StepsBack h b n x (refill (length l) l m)
+pub back_all : {h b : Rel} {n x k y : ℕ} {l m : List ℕ} → Back h b n x k y l → k ≤ 0 → m ≡ reverse l → StepsBack h b n x m
 back_all {h} {b} {n} {x} {k} {y} {l} {m} w p e =
-    subst (StepsBack h b n x) (sym (refilled (length l) l m refl (ap length e ∙ length-reverse l)))
-    (record {
+    record {
       long = ap length e ∙ length-reverse l ∙ omega (arith, w.long);
       end = at n (omega arith) ∙ ap (λ (i : ℕ). get_or l i zero) {x = n - n} {y = 0} (omega arith) ∙ w.end;
       level = λ j c. rw (at j c) (w.level j (omega arith) c);
       step = λ j c. rw (at j (omega arith), at (suc j) (omega arith)) (w.step j (omega arith) c);
-    })
+    }
   where
     at : (j : ℕ) → j ≤ n → get_or m j zero ≡ get_or l (n - j) zero
     at j h =

@@ -8,7 +8,7 @@ pub mod order;
 pub mod ring;
 pub mod row;
 
-use arrayvec::ArrayVec;
+use sequence::Sequence;
 
 // A list of event numbers.
-pub type Events = ArrayVec<u8, 64>;
+pub type Events = Sequence<u8, 64>;

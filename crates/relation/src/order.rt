@@ -1,7 +1,6 @@
 // The order in which events are shown: always next the smallest whose predecessors are out.
 
-ghost use Rattle.std.specs.Prelude.{◌≡◌, ◌≤◌};
-ghost use Rattle.arrayvec.specs.ArrayVec.{array_vec_len};
+ghost use Rattle.std.specs.Prelude.{◌≡◌, ◌≤◌, length};
 ghost use Rattle.relation.specs.Rel.{inverse, smallest};
 ghost use Rattle.relation.specs.Bits.{bit, edge};
 ghost use Rattle.relation.specs.Order.{order, ready};
@@ -12,7 +11,7 @@ use crate::{Events, grid, row};
 
 // The events of s in that order; those that come out are all of them where g has no ring.
 pub fn order(g: Grid, s: Row) -> Events
-    ensures bounded { array_vec_len result ≤ 64 }
+    ensures bounded { length result.items ≤ 64 }
     ensures ordered { result.items ≡ order 64 (edge g) (bit s) }
 {
     let before = grid::inverse(g);

@@ -2,7 +2,6 @@
 // A ring's steps are edges of g; its closing step, from the last event back to the first, is an edge of e.
 
 ghost use Rattle.std.specs.Prelude.{◌≡◌, true, ℕ, ◌<◌, ◌≤◌, length, IfSome, IfNone};
-ghost use Rattle.arrayvec.specs.ArrayVec.{array_vec_len};
 ghost use Rattle.relation.specs.Bits.{edge};
 ghost use Rattle.relation.specs.Rel.{compose, nodes};
 ghost use Rattle.relation.specs.Ring.{RingOrNone, power, Shortest, NoneBelow, Levels, StepsBack, Way, Turned, SmallestAt};
@@ -97,14 +96,14 @@ pub fn turned(way: Events) -> Events
     let events = way.as_slice();
     let m = smallest_at(events);
     let mut ring = Events::new();
-    ring.try_extend_from_slice(&events[m..]).unwrap();
-    ring.try_extend_from_slice(&events[..m]).unwrap();
+    ring.extend_from_slice(&events[m..]);
+    ring.extend_from_slice(&events[..m]);
     ring
 }
 
 // A shortest ring, or no event where there is none.
 pub fn ring(g: Grid, e: Grid) -> Events
-    ensures bounded { array_vec_len result ≤ 64 }
+    ensures bounded { length result.items ≤ 64 }
     ensures ring { RingOrNone (edge g) (edge e) result.items }
 {
     let Some(Start { steps, event }) = shortest(g, e) else {

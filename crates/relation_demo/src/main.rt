@@ -9,7 +9,7 @@ use std::io;
 
 // The events found, each behind a space, and a line feed.
 fn show(rt: &impl Print, found: Events) -> io::Result<()> {
-    for event in &found {
+    for event in found.as_slice() {
         print!(rt; " {event}")?;
     }
     println!(rt)

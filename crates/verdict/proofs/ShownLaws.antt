@@ -20,10 +20,20 @@ use Rattle.models.specs.Term.{eval}
 use Rattle.models.specs.Rules.{Model, broken_pair, first, unread, unordered, failures, verdict}
 use Rattle.models.proofs.FirstLaws.{at, positive, first_at, none_more}
 use Rattle.verdict.specs.declared.Broken.{Broken}
+use Rattle.verdict.specs.declared.Rule.{Rule}
+use Rattle.verdict.specs.declared.Rule.TheVariants.{Reads, Writes, Coherence, Atomicity, Acyclicity}
 use Rattle.verdict.specs.declared.rules.Pair.{Pair}
-use Rattle.verdict.specs.Verdict.{Verdict, rule_of, events}
+use Rattle.verdict.specs.Verdict.{Verdict, number, rule_of, events}
 use Rattle.verdict.specs.Shown.{first_of, second_of, Shown, FirstPair, Hold, Tried, Around}
 use Rattle.verdict.proofs.PairLaws.{pair_found}
+
+-- A rule has a number.
+pub number_not_0 : (r : Rule) → number r ≡ 0 → ⊥
+number_not_0 Reads p = omega (arith, p)
+number_not_0 Writes p = omega (arith, p)
+number_not_0 Coherence p = omega (arith, p)
+number_not_0 Atomicity p = omega (arith, p)
+number_not_0 Acyclicity p = omega (arith, p)
 
 -- Whether the test finds no event of the set, or one.
 module _ {b : Bool} {s : Set} (t : Set) (test : b ≡ not (some nodes s)) (is : s ≡ t) where

@@ -1,6 +1,6 @@
 -- A verdict by 01's numbers, and the events that it shows.
 use Rattle.std.specs.Prelude.{List, ℕ, Result, Ok, Err}
-use Rattle.arrayvec.specs.ArrayVec.{ArrayVec}
+use Rattle.sequence.specs.Items.{Items}
 use Rattle.verdict.specs.declared.Broken.{Broken}
 use Rattle.verdict.specs.declared.Rule.{Rule}
 use Rattle.verdict.specs.declared.Rule.TheVariants.{Reads, Writes, Coherence, Atomicity, Acyclicity}
@@ -14,7 +14,7 @@ number Acyclicity = 5
 
 -- Allowed or broken.
 abbrev pub Verdict : Type 0
-Verdict = Result (ArrayVec ℕ) Broken
+Verdict = Result (Items ℕ) Broken
 
 -- The number of the first broken rule ("first broken one named"), and 0 where none is, as `verdict` of `models`.
 abbrev pub rule_of : Verdict → ℕ

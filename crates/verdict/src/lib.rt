@@ -42,7 +42,7 @@ impl Rule {
 }
 
 // The first broken rule, and the events that break it.
-#[derive(Clone, Drop)]
+#[derive(Clone, Copy)]
 pub struct Broken {
     pub rule: Rule,
     pub events: Events,

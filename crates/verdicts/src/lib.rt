@@ -3,7 +3,8 @@
 #![tactic(auto)]
 
 ghost use Rattle.std.specs.Prelude.{◌≡◌};
-ghost use Rattle.models.specs.Why.{clauses_of};
+ghost use Rattle.models.specs.Armv8.{sc_per_loc_clauses};
+ghost use Rattle.models.specs.Why.{clauses_of, imm_rings, armv8_rings, tso_rings};
 ghost use Rattle.layout.specs.Decode.{decode};
 ghost use Rattle.recording.specs.Load.{LoadsAs, cause_for};
 ghost use Rattle.refusal.specs.Refusal.{number_of};
@@ -49,13 +50,54 @@ fn judge(model: Model, base: &Base) -> Verdict
     }
 }
 
+// The steps by the clauses of IMM's coherence. A call of its own, as those by the other clauses are: so the arrays of grids of one relation
+// alone stand on the stack.
+#[inline(never)]
+fn imm_coherence(base: &Base, verdict: &Verdict) -> Steps
+    ensures { StepsBy imm_rings.rule3 (base_of base.now) verdict.now result.items }
+{
+    clause::explained(verdict, &imm::why::coherence(base))
+}
+
+// The steps by the clauses of SC-per-location, the coherence of ARMv8 and of x86-TSO.
+#[inline(never)]
+fn per_location(base: &Base, verdict: &Verdict) -> Steps
+    ensures { StepsBy sc_per_loc_clauses (base_of base.now) verdict.now result.items }
+{
+    clause::explained(verdict, &clause::per_location(base))
+}
+
+// The steps by the clauses of ar.
+#[inline(never)]
+fn imm_order(base: &Base, verdict: &Verdict) -> Steps
+    ensures { StepsBy imm_rings.rule5 (base_of base.now) verdict.now result.items }
+{
+    clause::explained(verdict, &imm::why::order(base))
+}
+
+// The steps by the clauses of ob.
+#[inline(never)]
+fn armv8_order(base: &Base, verdict: &Verdict) -> Steps
+    ensures { StepsBy armv8_rings.rule5 (base_of base.now) verdict.now result.items }
+{
+    clause::explained(verdict, &armv8::why::order(base))
+}
+
+// The steps by the clauses of the order of x86-TSO.
+#[inline(never)]
+fn tso_order(base: &Base, verdict: &Verdict) -> Steps
+    ensures { StepsBy tso_rings.rule5 (base_of base.now) verdict.now result.items }
+{
+    clause::explained(verdict, &tso::why::order(base))
+}
+
 // The steps of the ring of a broken rule 3.
 fn coherence_steps(model: Model, base: &Base, verdict: &Verdict) -> Steps
     ensures { StepsBy (clauses_for model).rule3 (base_of base.now) verdict.now result.items }
 {
     match model {
-        Model::Source => clause::explained(verdict, &imm::why::coherence(base)),
-        Model::Chip | Model::Tso => clause::explained(verdict, &clause::per_location(base)),
+        Model::Source => imm_coherence(base, verdict),
+        Model::Chip | Model::Tso => per_location(base, verdict),
     }
 }
 
@@ -64,9 +106,9 @@ fn order_steps(model: Model, base: &Base, verdict: &Verdict) -> Steps
     ensures { StepsBy (clauses_for model).rule5 (base_of base.now) verdict.now result.items }
 {
     match model {
-        Model::Source => clause::explained(verdict, &imm::why::order(base)),
-        Model::Chip => clause::explained(verdict, &armv8::why::order(base)),
-        Model::Tso => clause::explained(verdict, &tso::why::order(base)),
+        Model::Source => imm_order(base, verdict),
+        Model::Chip => armv8_order(base, verdict),
+        Model::Tso => tso_order(base, verdict),
     }
 }
 
@@ -94,6 +136,7 @@ pub fn explained(model: Model, file: &[u8], verdict: &Verdict) -> Steps
     requires { LoadsAs (side_for model) file.now × OnRecording (model_for model) (JudgedFor model) (decode file.now) verdict.now }
     ensures { Explained (clauses_of (clauses_for model) (rule_of verdict.now)) (decode file.now) (ring verdict.now) result.items }
 {
+    // The base is made once for both rules, and not where no ring is shown.
     if clause::ring_of(verdict).is_empty() {
         return Steps::new();
     }

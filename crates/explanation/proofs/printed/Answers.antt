@@ -1,10 +1,7 @@
 -- `printed` meets its contract: by what loading answers, and by the side.
-use mathlib.Core.Path.{ap}
-use native.Mathlib.Omega.{arith}
-use lib.ListN.{length}
 use Rattle.recording.proofs.CauseLaws.{loaded_side}
 use Rattle.judgement.proofs.PrintLaws.{refusal_text, source_text, chip_text, alone}
-use Rattle.explanation.proofs.WhyLaws.{reasoned_alone}
+use Rattle.explanation.proofs.WhyLaws.{reasoned_alone, reasons}
 use Rattle.explanation.proofs.printed.Goals as goal
 
 pub returns-in_default : goal.returns-in_default
@@ -20,13 +17,10 @@ returns-then-header c = source_text _ _ _ _ (loaded_side c.load-loaded.ensures c
 pub loaded-verdict-requires : goal.loaded-verdict-requires
 loaded-verdict-requires c = loaded_side c.load-loaded.ensures c.in-Ok.is c.if-header.false
 
-pub reason-requires-clause-room : goal.reason-requires-clause-room
-reason-requires-clause-room c = omega (arith, ap length c.new-text-2.ensures)
-
-pub reason-requires-clause-judged : goal.reason-requires-clause-judged
-reason-requires-clause-judged c = (loaded_side c.load-loaded.ensures c.in-Ok.is c.if-header.false, c.loaded-verdict.ensures)
+pub explained-steps-requires : goal.explained-steps-requires
+explained-steps-requires c = (loaded_side c.load-loaded.ensures c.in-Ok.is c.if-header.false, c.loaded-verdict.ensures)
 
 pub returns : goal.returns
 returns c =
     chip_text _ _ _ _ (loaded_side c.load-loaded.ensures c.in-Ok.is c.if-header.false)
-    (reasoned_alone c.new-text-2.ensures c.loaded-verdict.ensures c.reason.ensures.put)
+    (reasoned_alone c.new-text-2.ensures c.loaded-verdict.ensures (reasons c.explained-steps.ensures c.as_slice.ensures.value c.reason.ensures.put))

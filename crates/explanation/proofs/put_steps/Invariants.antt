@@ -1,6 +1,5 @@
 -- `put_steps`: the lines of the steps before the one that is next are put.
-use Rattle.std.proofs.Common.{◌≡◌, ◌++◌, ◌+◌, ◌*◌, ◌≤◌, take}
-use Rattle.arrayvec.specs.ArrayVec.{array_vec_len}
+use Rattle.std.proofs.Common.{◌≡◌, ◌++◌, ◌+◌, ◌*◌, ◌≤◌, length, take}
 use Rattle.models.specs.Why.{clauses_of}
 use Rattle.lines.specs.Lines.{model_word}
 use Rattle.verdicts.specs.ByModel.{clauses_for}
@@ -11,4 +10,4 @@ abbrev pub invariant-loop-step : goal.invariant-loop-step
 invariant-loop-step l =
     (l.text.items
     ≡ l.initial.text.items ++ step_lines (model_word l.model) (clauses_of (clauses_for l.model) l.rule) (take l.step-index l.steps))
-    × (array_vec_len l.text ≤ array_vec_len l.initial.text + 44 * l.step-index)
+    × (length l.text.items ≤ length l.initial.text.items + 44 * l.step-index)

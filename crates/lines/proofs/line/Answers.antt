@@ -3,29 +3,29 @@ use mathlib.Core.List.{append_assoc}
 use Rattle.lines.specs.Lines.{model_word}
 use Rattle.lines.proofs.LineLaws.{allowed_parts, broken_parts}
 use Rattle.lines.proofs.line.Goals as goal
-use Rattle.lines.proofs.line.Goals.{then-rule-eq0, else-rule-eq0}
+use Rattle.lines.proofs.line.Goals.{in-Some, in_default}
 
 pub returns-clause-line : goal.returns-clause-line
 returns-clause-line c =
-    elim c.if-rule-eq0.branch [
-      | then-rule-eq0 w ↦ rw (w.if-rule-eq0.true, allowed_parts (model_word c.args.model) c.args.events.now)
-          (simp (
-            c.push.ensures.items,
-            c.put_numbers.ensures.put,
-            w.text-is,
-            w.put_word-then-rule-eq0.ensures,
-            c.put_word.ensures,
-            c.word.ensures,
-            c.new-text.ensures,
-            append_assoc,
-          ))
-      | else-rule-eq0 w ↦ rw (broken_parts (model_word c.args.model) c.args.rule c.args.events.now w.if-rule-eq0.false)
+    elim c.match-broken.branch [
+      | in-Some w ↦ rw (w.in-Some.is, broken_parts (model_word c.args.model) w.in-Some.rule c.args.events.now)
           (simp (
             c.push.ensures.items,
             c.put_numbers.ensures.put,
             w.text-is,
             w.put_number.ensures.put,
-            w.put_word-else-rule-eq0.ensures,
+            w.put_word-in-Some.ensures,
+            c.put_word.ensures,
+            c.word.ensures,
+            c.new-text.ensures,
+            append_assoc,
+          ))
+      | in_default w ↦ rw (w.in_default.is, allowed_parts (model_word c.args.model) c.args.events.now)
+          (simp (
+            c.push.ensures.items,
+            c.put_numbers.ensures.put,
+            w.text-is,
+            w.put_word-in_default.ensures,
             c.put_word.ensures,
             c.word.ensures,
             c.new-text.ensures,

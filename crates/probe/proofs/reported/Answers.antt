@@ -1,5 +1,4 @@
 -- `reported` meets its contract: a refusal's number, or the events are stored.
-use mathlib.Core.Path.{refl}
 use Rattle.probe.proofs.WhyLaws.{reported_ok, reported_err}
 use Rattle.probe.proofs.reported.Goals as goal
 

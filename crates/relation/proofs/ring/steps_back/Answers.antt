@@ -1,6 +1,6 @@
 -- `ring::steps_back` meets its contract: each event but the last leads to the one after it.
 use mathlib.Core.Path.{◌≡◌, ap, ◌∙◌}
-use mathlib.Core.List.{List, [], ◌∷◌, ◌++◌, reverse}
+use mathlib.Core.List.{List, [], ◌∷◌, ◌++◌}
 use Prim.Native.Nat.{ℕ, ◌-◌}
 use Rattle.std.specs.Prelude.{Some}
 use native.Mathlib.Omega.{arith}
@@ -29,4 +29,4 @@ pub loop-k-preserved : goal.loop-k-preserved
 loop-k-preserved c = back_more c.loop-k.invariant (omega arith) c.push-in-loop-k.ensures.items (before c.before.before.before c.unwrap-y.ensures)
 
 pub returns : goal.returns
-returns c = back_all c.loop-k.invariant c.loop-k-test.false (c.reverse.ensures.after ∙ ap reverse c.deref_mut.ensures.value)
+returns c = back_all c.loop-k.invariant c.loop-k-test.false c.reverse.ensures

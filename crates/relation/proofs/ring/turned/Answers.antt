@@ -5,12 +5,8 @@ use Prim.Native.Nat.{ℕ, ◌-◌}
 use native.Mathlib.Omega.{arith}
 use lib.ListN.{length, take, drop, length-drop}
 use lib.Seq.{take_all}
-use Rattle.std.specs.Prelude.{Result, Ok, OnOk}
 use Rattle.relation.specs.Ring.{SmallestAt, Turned}
 use Rattle.relation.proofs.ring.turned.Goals as goal
-
-where_ok : {T E : Type 0} {r : Result T E} {a : T} {P : Type 0} → OnOk r P → r ≡ Ok a → P
-where_ok {T} {E} {P = P} p e = subst (λ (r : Result T E). OnOk r P) e p
 
 -- The first part is the events from place m to the last, the second those before m.
 turned_of : {l events none part out : List ℕ} {m : ℕ} → events ≡ l → SmallestAt events (length events) m → none ≡ []
@@ -22,5 +18,4 @@ turned_of {l} {events} {none} {part} {out} {m} e w n p q =
 
 pub returns : goal.returns
 returns c =
-    turned_of c.as_slice-events.ensures.value c.smallest_at-m.ensures c.new-ring.ensures
-    (where_ok c.try_extend_from_slice.ensures.ok c.unwrap.ensures) (where_ok c.try_extend_from_slice-2.ensures.ok c.unwrap-2.ensures)
+    turned_of c.as_slice-events.ensures.value c.smallest_at-m.ensures c.new-ring.ensures c.extend_from_slice.ensures.items c.extend_from_slice-2.ensures.items

@@ -1,0 +1,2 @@
+-- Laws that the proofs of `sequence` share.
+pub mod SequenceLaws

@@ -1,0 +1,2 @@
+-- The definitions that the contracts of `sequence` cite.
+pub mod Items
