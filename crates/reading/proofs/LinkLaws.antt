@@ -1,12 +1,13 @@
--- Laws of the links into an event, of the iterator that goes along them, and of what is gathered on the way.
+-- Laws of the links into an event, of walks along them and the iterator that makes one, and of what is gathered on the way.
 use mathlib.Core.Path.{◌≡◌, refl, sym, ap, ap₂, subst, ◌∙◌, fun_ext}
 use mathlib.Core.Bool.{Bool, true, ◌&&◌, ◌||◌, or-false, or_assoc}
 use mathlib.Core.List.{List, [], ◌∷◌}
 use mathlib.Core.Logic.{◌⊎◌, inl, inr}
-use Prim.Native.Nat.{ℕ, suc, ◌+◌, ◌-◌, ◌*◌, ◌<◌, ◌≤◌}
+use Prim.Native.Nat.{ℕ, zero, suc, ◌+◌, ◌-◌, ◌*◌, ◌<◌, ◌≤◌}
 use native.Mathlib.Numerals.{add-one}
 use native.Mathlib.Omega.{arith}
-use borrow.Author.Tests.{ne_eqb, eq-eqb, leb-true, ltb-true}
+use native.Mathlib.Decide.{ℕ_discrete, dec_lt}
+use borrow.Author.Tests.{ne_eqb, eq-eqb, leb-true, ltb-true, le-leb}
 use lib.Dec.{eqb, ltb}
 use lib.ListN.{length, get_or, set, replicate}
 use lib.Bits.{bit_and, and_mask}
@@ -19,7 +20,7 @@ use Rattle.layout.specs.Decode.{decode}
 use Rattle.reading.specs.Sets.{SourcesInto}
 use Rattle.reading.specs.Readable.{within, readable, links_from, Walk}
 use Rattle.layout.proofs.FieldLaws.{recorded_is}
-use Rattle.layout.proofs.ChainLaws.{follow_end, follow_none, follow_in}
+use Rattle.layout.proofs.ChainLaws.{follow_end, follow_none, follow_in, follow_over}
 use Rattle.reading.proofs.EightRows.{Eight, eight_none, eight_keep, eight_set}
 
 pub within_le : (f : List ℕ) (m : ℕ) → within f m ≡ true → m ≤ links f
@@ -48,15 +49,30 @@ pub over : (f : List ℕ) (n x : ℕ) → (n ≡ 0) ⊎ (x ≡ 0) → links_from
 over f n x (inl e) = follow_none (links f) (next_link f) n x (omega arith)
 over f n x (inr e) = ap (links_from f n) e ∙ follow_end (links f) (next_link f) n
 
+-- No more are met than are followed, so that the list of the links into an event is at most one longer than the number of the file's links.
+met_few : (f : List ℕ) (n x : ℕ) → length (links_from f n x) ≤ n
+met_few f zero x = omega (arith, ap length (over f 0 x (inl refl)))
+met_few f (suc n) x =
+    elim (ℕ_discrete x 0) [
+      | yes e ↦ omega (arith, ap length (over f (suc n) x (inr e)))
+      | no d ↦ elim (dec_lt (links f) x) [
+        | yes h ↦ omega (arith, ap length (follow_over (links f) (next_link f) n x d h))
+        | no h ↦ omega (arith, ap length (follow_in (links f) (next_link f) n x d (omega (arith, h))), met_few f n (next_link f x))
+      ]
+    ]
+
+pub links_few : (f : List ℕ) (b : ℕ) → length (links_into f b) ≤ links f + 1
+links_few f b = omega (arith, met_few f (suc (links f)) (first_link f (b - 1)))
+
 -- The link x at which a walk stands: it lies within the file, and the rest goes on from the one that follows it.
-pub record Here (f : List ℕ) (from n x : ℕ) : Type 0 where
+pub record Onward (f : List ℕ) (from n x : ℕ) : Type 0 where
   pub room : from + 4 * (x - 1) < length f
   pub next : (y : ℕ) → y ≡ next_of f from 4 x → links_from f n x ≡ x ∷ links_from f (n - 1) y
   pub on : (y : ℕ) → y ≡ next_of f from 4 x → Walk f from (n - 1) y
 
-pub walk_here : {f : List ℕ} {from n x : ℕ} → Walk f from n x → (n ≡ 0 → ⊥) → (x ≡ 0 → ⊥) → Here f from n x
+pub walk_onward : {f : List ℕ} {from n x : ℕ} → Walk f from n x → (n ≡ 0 → ⊥) → (x ≡ 0 → ⊥) → Onward f from n x
 unfolding all_of follow
-walk_here {f} {from} {n} {x} w h d =
+walk_onward {f} {from} {n} {x} w h d =
     let e : n ≡ suc (n - 1) = omega (arith, h) in
     let inside = within_le f x (and_left (within f x) _ (rw (ne_eqb x 0 d, follow) at (subst (λ (k : ℕ). all_of (links_from f k x) (within f) ≡ true) e w.inside))) in
     let next : (y : ℕ) → y ≡ next_of f from 4 x → links_from f n x ≡ x ∷ links_from f (n - 1) y =
@@ -72,13 +88,71 @@ walk_here {f} {from} {n} {x} w h d =
       };
     }
 
+-- A test that another implies passes on each member of a list where the other does.
+all_as : {p q : ℕ → Bool} (l : List ℕ) → ((m : ℕ) → q m ≡ true → p m ≡ true) → all_of l q ≡ true → all_of l p ≡ true
+unfolding all_of
+all_as [] k e = refl
+all_as {p} {q} (m ∷ l) k e = and_both (p m) (all_of l p) (k m (and_left (q m) (all_of l q) e)) (all_as l k (and_right (q m) (all_of l q) e))
+
 -- Each link of a readable chain lies within the file, and is readable.
 pub all_within : (f l : List ℕ) → all_of l (readable f) ≡ true → all_of l (within f) ≡ true
-unfolding all_of readable
-all_within f [] e = refl
-all_within f (m ∷ l) e =
-    and_both (within f m) (all_of l (within f)) (and_left (within f m) _ (and_left (readable f m) (all_of l (readable f)) e))
-    (all_within f l (and_right (readable f m) (all_of l (readable f)) e))
+unfolding readable
+all_within f l e = all_as l (λ m p. and_left (within f m) _ p) e
+
+-- A walk along the links into b: the next is x, at most n are left, and of each of them q holds, which says that it lies within the file.
+-- (`Walk` says no more than that, and nothing of b.)
+pub record LinkWalk (f : List ℕ) (q : ℕ → Bool) (b from n x : ℕ) : Type 0 where
+  pub sized : Sized f
+  pub low : 1 ≤ b
+  pub high : b ≤ events f
+  pub begins : from ≡ 8 + 8 * events f
+  pub within : (m : ℕ) → q m ≡ true → m ≤ links f
+  pub rest : all_of (links_from f n x) q ≡ true
+
+-- The link x at which it stands, and the rest from the one that follows it.
+pub record Here (f : List ℕ) (q : ℕ → Bool) (from n x : ℕ) : Type 0 where
+  pub sized : Sized f
+  pub first : 1 ≤ x
+  pub inside : x ≤ links f
+  pub room : from + 4 * (x - 1) < length f
+  pub good : q x ≡ true
+  pub next : (y : ℕ) → y ≡ next_of f from 4 x → links_from f n x ≡ x ∷ links_from f (n - 1) y
+
+pub walk_start : {f : List ℕ} {q : ℕ → Bool} {b e n x : ℕ} → Sized f → 1 ≤ b → b ≤ events f → e ≡ events f → n ≡ links f → x ≡ first_link f (b - 1)
+    → ((m : ℕ) → q m ≡ true → m ≤ links f) → all_of (links_into f b) q ≡ true → LinkWalk f q b (8 + 8 * e) (n + 1) x
+walk_start {f} {q} {b} {e} {n} {x} s l h p i j k g =
+    record {
+      sized = s;
+      low = l;
+      high = h;
+      begins = omega arith;
+      within = k;
+      rest = subst (λ (r : List ℕ). all_of r q ≡ true) (sym (whole f b n x i j)) g;
+    }
+
+module _ {f : List ℕ} {q : ℕ → Bool} {b from n x : ℕ} (w : LinkWalk f q b from n x) where
+  walk_of : Walk f from n x
+  unfolding within
+  walk_of = record { sized = w.sized; begins = w.begins; inside = all_as (links_from f n x) (λ m p. le-leb m (links f) (w.within m p)) w.rest }
+
+  pub walk_here : 0 < n → (x ≡ 0 → ⊥) → Here f q from n x
+  unfolding all_of
+  walk_here h d =
+      let on = walk_onward walk_of (λ e. omega (arith, h, e)) d in
+      let good = and_left (q x) _ (subst (λ (l : List ℕ). all_of l q ≡ true) (on.next _ refl) w.rest) in
+      record { sized = w.sized; first = omega (arith, d); inside = w.within x good; room = on.room; good = good; next = on.next }
+
+  pub walk_on : {y : ℕ} → Here f q from n x → y ≡ next_of f from 4 x → LinkWalk f q b from (n - 1) y
+  unfolding all_of
+  walk_on {y} h s =
+      record {
+        sized = w.sized;
+        low = w.low;
+        high = w.high;
+        begins = w.begins;
+        within = w.within;
+        rest = and_right (q x) _ (subst (λ (l : List ℕ). all_of l q ≡ true) (h.next y s) w.rest);
+      }
 
 -- On the way along the links into b: q holds of each that is left.
 pub record Ahead (f : List ℕ) (q : ℕ → Bool) (b : ℕ) (left : List ℕ) : Type 0 where

@@ -4,7 +4,7 @@ use mathlib.Core.Logic.{inl, inr}
 use native.Mathlib.Omega.{arith}
 use lib.ListN.{length}
 use borrow.Author.Rules.{rules}
-use Rattle.reading.proofs.LinkLaws.{over, walk_here}
+use Rattle.reading.proofs.LinkLaws.{over, walk_onward}
 use Rattle.reading.proofs.links.LinkIterIterator.next.Goals as goal
 use Rattle.reading.proofs.links.LinkIterIterator.next.Goals.{then-self-eq0-via-then-self-eq0, then-self-eq0-via-else-self-eq0+then-m-eq0}
 
@@ -17,18 +17,18 @@ returns-then-self-eq0-clause-steps c =
     ((none, none), tt)
 
 pub moved-self-inside-requires : goal.moved-self-inside-requires
-moved-self-inside-requires c = let here = walk_here c.self.invariant c.if-self-eq0.false c.if-m-eq0.false in (omega (arith, c.if-m-eq0.false), here.room)
+moved-self-inside-requires c = let here = walk_onward c.self.invariant c.if-self-eq0.false c.if-m-eq0.false in (omega (arith, c.if-m-eq0.false), here.room)
 
 pub invariant_of-self : goal.invariant_of-self
-invariant_of-self c = (walk_here c.self.invariant c.if-self-eq0.false c.if-m-eq0.false).on _ c.moved-self-inside.ensures.0
+invariant_of-self c = (walk_onward c.self.invariant c.if-self-eq0.false c.if-m-eq0.false).on _ c.moved-self-inside.ensures.0
 
 pub returns-clause-steps : goal.returns-clause-steps
 returns-clause-steps c =
-    let here = walk_here c.self.invariant c.if-self-eq0.false c.if-m-eq0.false in
+    let here = walk_onward c.self.invariant c.if-self-eq0.false c.if-m-eq0.false in
     (sym c.self.view_is ∙ here.next _ c.moved-self-inside.ensures.0, omega (arith, c.if-m-eq0.false))
 
 pub returns-clause-goes : goal.returns-clause-goes
 returns-clause-goes c =
-    let here = walk_here c.self.invariant c.if-self-eq0.false c.if-m-eq0.false in
+    let here = walk_onward c.self.invariant c.if-self-eq0.false c.if-m-eq0.false in
     let fewer = ap length (sym c.self.view_is ∙ here.next _ c.moved-self-inside.ensures.0) in
     record { on = λ h. (search rules, search rules, omega (arith, fewer)); keeps = search rules; rests = search rules }
