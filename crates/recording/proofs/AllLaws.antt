@@ -1,10 +1,11 @@
--- What `all` answers of the numbers from 1 to n, and `any` of the numbers below n, for a closure that computes a test.
+-- What `all` answers of the numbers from 1 to n and of the items of a list, and `any` of the numbers below n, for a closure that computes a test.
 use mathlib.Core.Path.{◌≡◌, refl, sym, ap, ap₂, ◌∙◌}
 use mathlib.Core.Bool.{Bool, true, false, ◌&&◌, ◌||◌, and-true, and_assoc, or_assoc, or_comm}
 use mathlib.Core.List.{List, [], ◌∷◌}
 use Prim.Native.Nat.{ℕ, zero, suc, ◌+◌, ◌-◌}
 use native.Mathlib.Omega.{arith}
 use denote.Param.Members.{Mut}
+use denote.Ref.{Bor}
 use Rattle.std.specs.Prelude.{Option}
 use Rattle.std.specs.Range.{range_inclusive_left, range_inclusive_len, range_inclusive_start, range_inclusive_end, range_inclusive_exhausted}
 use Rattle.std.specs.declared.ops.RangeInclusive.{RangeInclusive}
@@ -13,10 +14,12 @@ use Rattle.std.specs.Fn.{Called}
 use Rattle.std.specs.Iterator.{AlwaysYields, YieldsThen}
 use Rattle.std.specs.List.{range_with_len, list_all, list_any, FoldsTo}
 use Rattle.std.specs.Option.{MatchOption}
-use Rattle.std.proofs.lemmas.Iterator.{YieldsList-from_range}
+use Rattle.std.specs.Slice.Iter.{iter_rest}
+use Rattle.std.proofs.Common.{Iter}
+use Rattle.std.proofs.lemmas.Iterator.{YieldsList, YieldsList-from_range, YieldsList-from_slice}
 use Rattle.std.proofs.lemmas.Iterator.Search.{all_from_yields_List, any_from_yields_List}
 use Rattle.std.proofs.iter.runs.Sources.{nat_range_inclusive_steps}
-use Rattle.std.proofs.iter.Yields.{nat_range_steps}
+use Rattle.std.proofs.iter.Yields.{nat_range_steps, fronts}
 use Rattle.relation.specs.Rel.{some, below}
 use Rattle.layout.specs.Chains.{each, all_of}
 
@@ -85,3 +88,15 @@ module _ {F : Type 0} {g : Mut F (ℕ × Unit {0}) Bool} {f : F} {r : Bool} (p :
       → (xs : List ℕ) × (o : Option ℕ) × (j : F) × YieldsThen nat_range_steps (record { start = 0; end = n }) xs o u × FoldsTo (λ p x q. Called g p (x, tt) false q) f xs j × MatchOption o (r ≡ false) (λ x. (r ≡ true) × ((h : F) × Called g j (x, tt) true h))
       → r ≡ some (below n) p
   any_number {u} n ran = any_from_yields_List p u f r ran (YieldsList-from_range 0 n n refl (omega arith)) computes ∙ some_list p n
+
+-- `xs.all(..)`, where xs yields the list l: v takes an item to its number.
+pub all_yielded : {S A F : Type 0} {steps : S → Option A → S → Type 0} {v : A → ℕ} {g : Mut F (A × Unit {0}) Bool} {s : S} {f : F} {r : Bool} {l : List ℕ} (p : ℕ → Bool) (u : S) → ((x : A) (b : Bool) (q : F) → Called g f (x, tt) b q → (q ≡ f) × (b ≡ p (v x)))
+    → (xs : List A) × (o : Option A) × (j : F) × YieldsThen steps s xs o u × FoldsTo (λ p x q. Called g p (x, tt) true q) f xs j × MatchOption o (r ≡ true) (λ x. (r ≡ false) × ((h : F) × Called g j (x, tt) false h))
+    → YieldsList steps v s l → r ≡ all_of l p
+all_yielded {steps = steps} {s = s} {f = f} {r = r} {l = l} p u computes ran road = all_from_yields_List {steps = steps} {s = s} p u f r ran road computes ∙ list_of p l
+
+-- `xs.iter().all(..)`
+pub all_items : {F : Type 0} {g : Mut F (Bor ℕ × Unit {0}) Bool} {s u : Iter ℕ} {f : F} {r : Bool} {l : List ℕ} (p : ℕ → Bool) → ((x : Bor ℕ) (b : Bool) (q : F) → Called g f (x, tt) b q → (q ≡ f) × (b ≡ p x.now))
+    → (xs : List (Bor ℕ)) × (o : Option (Bor ℕ)) × (j : F) × YieldsThen fronts s xs o u × FoldsTo (λ p x q. Called g p (x, tt) true q) f xs j × MatchOption o (r ≡ true) (λ x. (r ≡ false) × ((h : F) × Called g j (x, tt) false h))
+    → iter_rest s ≡ l → r ≡ all_of l p
+all_items {u = u} p computes ran e = all_yielded p u computes ran (YieldsList-from_slice _ e)

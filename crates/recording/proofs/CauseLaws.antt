@@ -13,12 +13,12 @@ use Rattle.relation.proofs.Meaning.{some_sound, some_complete, mem_below, below_
 use Rattle.models.specs.Recording.{Recording, event, of_class, flagged}
 use Rattle.models.specs.Graph.{base}
 use Rattle.models.specs.Rules.{Numbered, first}
-use Rattle.models.proofs.FirstLaws.{positive, first_stops, first_goes_on, first_front}
+use Rattle.models.proofs.FirstLaws.{positive, test_of, first_stops, first_goes_on, first_front, first_fails}
 use Rattle.layout.specs.Layout.{Side, side, events, locations, links, link_byte, most_events, most_links, full_length, Sized}
-use Rattle.layout.specs.Chains.{fresh, once_each, next_link, first_link, links_into, links_sound, all_of}
+use Rattle.layout.specs.Chains.{fresh, once_each, next_link, first_link, links_into, threads_sound, links_sound, all_of}
 use Rattle.layout.specs.Decode.{decode}
 use Rattle.reading.specs.Readable.{within, readable, Chained, Readable}
-use Rattle.recording.specs.Causes.{rf_legal, co_legal, rmw_legal, from_read, data_legal, addr_legal, ctrl_legal, casdep_legal, link_legal, link_sound, one_source, links_sound_at, header_over, over_limit, bad_chains, bad_link, header_causes, record_causes, link_causes, causes, refusal}
+use Rattle.recording.specs.Causes.{rf_legal, co_legal, rmw_legal, from_read, data_legal, addr_legal, ctrl_legal, casdep_legal, link_legal, link_sound, one_source, links_sound_at, header_over, over_limit, bad_threads, bad_chains, bad_link, header_causes, record_causes, link_causes, causes, refusal}
 use Rattle.recording.specs.Load.{header_of, Loads, LoadsAs, other_side, cause_for}
 use Rattle.recording.specs.declared.Header.{Header}
 use Rattle.std.specs.Prelude.{Result, Ok, Err, IfOk, IsErrAnd}
@@ -120,7 +120,17 @@ chained f s p =
       chains = λ b h g. let (seen, w) = chain_fresh (links f) (next_link f) (first_link f) (events f) (b - 1) (omega arith) (and_left _ _ q) in all_within (links f) seen _ w;
     }
 
-into_readable : (f : List ℕ) (b : ℕ) → Chained f → 1 ≤ b → b ≤ events f → all_of (links_into f b) (link_sound f b) ≡ true → all_of (links_into f b) (readable f) ≡ true
+-- What the causes of the records leave.
+module _ (f : List ℕ) (s : Sized f) (p : first (record_causes f) ≡ 0) where
+  pub threads_of_records : threads_sound f ≡ true
+  unfolding record_causes positive test_of bad_threads
+  threads_of_records = not-false _ (first_fails (record_causes f) refl p 6)
+
+  pub chained_of_records : Chained f
+  unfolding record_causes positive test_of
+  chained_of_records = chained f s (first_fails (record_causes f) refl p 7)
+
+pub into_readable : (f : List ℕ) (b : ℕ) → Chained f → 1 ≤ b → b ≤ events f → all_of (links_into f b) (link_sound f b) ≡ true → all_of (links_into f b) (readable f) ≡ true
 into_readable f b c h g =
     all_of_both (links_into f b) (within f) (link_sound f b) (readable f) (λ m w q. sound_readable f b m c.sized w q) (c.chains b h g)
 

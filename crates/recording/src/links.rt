@@ -6,6 +6,7 @@ ghost use Rattle.relation.specs.Rel.{nodes, inverse};
 ghost use Rattle.models.specs.Recording.{Recording};
 ghost use Rattle.models.specs.Graph.{base};
 ghost use Rattle.layout.specs.Layout.{events, links, Sized};
+ghost use Rattle.layout.specs.Chains.{all_of, links_into};
 ghost use Rattle.layout.specs.Decode.{decode};
 ghost use Rattle.reading.specs.Readable.{Chained};
 ghost use Rattle.recording.specs.Causes.{one_source, link_sound, links_sound_at};
@@ -34,6 +35,19 @@ pub fn sound(file: &[u8], po: &Grid, m: usize, b: usize) -> bool
     // The mask keeps within po; the source of a sound link is below 64.
     let after = po[field::link_byte(file, m, 2) & 63];
     legal::link_sound(file, row::has(after, b), m, b)
+}
+
+// Whether each of the links into b is.
+pub fn each_sound(file: &[u8], po: &Grid, b: usize) -> bool
+    requires { Chained file.now × (edge po.now ≡ (base nodes (decode file.now)).po) × (1 ≤ b) × (b ≤ events file.now) }
+    ensures { result ≡ all_of (links_into file.now b) (link_sound file.now b) }
+{
+    links::into(file, b).all(
+        |m|
+            requires { Sized file.now × (edge po.now ≡ (base nodes (decode file.now)).po) × (1 ≤ m) × (m ≤ links file.now) × (b < 64) }
+            ensures { result ≡ link_sound file.entry.now b m }
+        { sound(file, po, m, b) },
+    )
 }
 
 // Whether the links into b are sound, and b has one rf source.
