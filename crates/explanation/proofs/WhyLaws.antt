@@ -3,13 +3,18 @@ use mathlib.Core.Path.{◌≡◌, refl, sym, ap, subst, ◌∙◌}
 use mathlib.Core.List.{List, [], ◌∷◌, ◌++◌, map, append_assoc, append-nil}
 use Prim.Native.Nat.{ℕ, ◌+◌, ◌<◌}
 use native.Mathlib.Numerals.{add-one}
+use native.Mathlib.Omega.{arith}
 use lib.ListN.{length, get_or, take}
 use lib.Seq.{take-suc}
+use Rattle.std.specs.Prelude.{Ok, Err}
+use Rattle.sequence.specs.Items.{Items}
 use Rattle.models.specs.Recording.{Recording}
+use Rattle.models.specs.Clause.{Clause}
 use Rattle.models.specs.Why.{Clauses, clauses_of, imm_rings, armv8_rings, tso_rings}
 use Rattle.layout.specs.Decode.{decode}
-use Rattle.verdict.specs.Verdict.{Verdict, rule_of}
-use Rattle.clause.specs.Steps.{joined, ring, Explained}
+use Rattle.verdict.specs.Verdict.{Verdict, number, rule_of}
+use Rattle.verdict.specs.declared.Broken.{Broken}
+use Rattle.clause.specs.Steps.{joined, ring, steps_to, Explained}
 use Rattle.translation.specs.Translation.{translation}
 use Rattle.lines.specs.Lines.{source, chip, tso}
 use Rattle.judgement.specs.Judgement.{OnSource, OnChip, OnTso, line_for}
@@ -27,6 +32,11 @@ joined_more f ls k h =
     ap (λ (n : ℕ). joined (map f (take n ls))) (add-one k)
     ∙ ap (λ (l : List (List ℕ)). joined (map f l)) (take-suc ls k [] h)
     ∙ joined_last f (take k ls) (get_or ls k [])
+
+-- An allowed verdict shows no ring, and needs no step.
+pub none_explained : (cs : List Clause) (r : Recording ℕ) (all : Items ℕ) → Explained cs r (ring (Ok all)) []
+unfolding ring steps_to
+none_explained cs r all = record { number = λ a b. 0; first = λ k h. absurd (omega arith); are = refl }
 
 -- The line of a step more.
 pub lines_more : (f : List ℕ → List ℕ) (steps : List (List ℕ)) (k : ℕ) (before : List ℕ) {text line after : List ℕ} → k < length steps
@@ -64,6 +74,18 @@ reasons {C} {word} {v = v} {before} {steps = steps} w s p =
       explained = w;
       prints = p ∙ ap (λ (l : List (List ℕ)). before ++ (line_for word v ++ step_lines word (clauses_of C (rule_of v)) l)) s;
     }
+
+module _ {C : Clauses} {word : List ℕ} {r : Recording ℕ} {v : Verdict} {before first line : List ℕ} (p : first ≡ before ++ line) (e : line ≡ line_for word v) where
+  -- A verdict that is allowed has its line alone,
+  pub none_reasons : {all : Items ℕ} → v ≡ Ok all → Reasons C word r v before first
+  none_reasons {all} is =
+      reasons (subst (λ (v : Verdict). Explained (clauses_of C (rule_of v)) r (ring v) []) (sym is) (none_explained _ r all)) refl
+      (p ∙ ap (λ (l : List ℕ). before ++ l) (e ∙ sym (append-nil (line_for word v))))
+
+  -- and one that is broken the lines of the steps too.
+  pub ring_reasons : {broken : Broken} {steps shown : List (List ℕ)} {after : List ℕ} → v ≡ Err broken → Explained (clauses_of C (rule_of v)) r (ring v) steps
+      → shown ≡ steps → after ≡ first ++ step_lines word (clauses_of C (number broken.rule)) shown → Reasons C word r v before after
+  ring_reasons {shown = shown} is w s q = reasons w s (line_and_steps C word before v shown p e (sym (ap rule_of is)) q)
 
 -- The text alone.
 reasoned : {On : List ℕ → Verdict → Type 0} {C : Clauses} {word f text before after : List ℕ} {v : Verdict} → On f v
