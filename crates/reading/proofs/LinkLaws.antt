@@ -100,7 +100,7 @@ unfolding readable
 all_within f l e = all_as l (λ m p. and_left (within f m) _ p) e
 
 -- A walk along the links into b: the next is x, at most n are left, and of each of them q holds, which says that it lies within the file.
--- (`Walk` says no more than that, and nothing of b.)
+-- `Walk`, which the iterator keeps, is this for the test `within`, without b.
 pub record LinkWalk (f : List ℕ) (q : ℕ → Bool) (b from n x : ℕ) : Type 0 where
   pub sized : Sized f
   pub low : 1 ≤ b

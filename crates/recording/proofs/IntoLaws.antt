@@ -3,28 +3,22 @@ use mathlib.Core.Path.{◌≡◌, sym, ap, subst, ◌∙◌}
 use mathlib.Core.Bool.{Bool, true, false, ◌&&◌, false≢true}
 use mathlib.Core.List.{List, [], ◌∷◌}
 use mathlib.Core.Logic.{inl, inr}
-use Prim.Native.Nat.{ℕ, zero, suc, ◌-◌, ◌<◌, ◌≤◌}
-use native.Mathlib.Omega.{arith}
-use borrow.Author.Tests.{eq-eqb, eqb-true, leb-true}
+use Prim.Native.Nat.{ℕ, suc, ◌-◌, ◌<◌, ◌≤◌}
+use borrow.Author.Tests.{eqb-true, leb-true}
 use lib.Dec.{eqb}
 use lib.ListN.{length, get_or}
 use Rattle.std.specs.Prelude.{Option, IfSome}
 use Rattle.std.specs.Iterator.{YieldsFirst}
 use Rattle.std.proofs.lemmas.Iterator.{YieldsList}
 use Rattle.std.proofs.lemmas.Iterator.Consumers.{YieldsList-from_shown}
-use Rattle.relation.proofs.Truth.{and_left, and_right, or_either, or_left, or_right}
+use Rattle.std.proofs.lemmas.Grind.{get_or_default_zero}
+use Rattle.relation.proofs.Truth.{and_left, and_right, or_either}
 use Rattle.layout.specs.Layout.{events, links}
 use Rattle.layout.specs.Chains.{among, next_link, first_link, links_into, all_of}
-use Rattle.layout.proofs.ChainFacts.{follow_positive}
+use Rattle.layout.proofs.ChainFacts.{among_at, follow_positive}
 use Rattle.reading.specs.Readable.{within, Chained}
 
--- The item at a place of a list is among its members, and passes a test that each passes.
-among_here : (x : ℕ) (l : List ℕ) (k : ℕ) → k < length l → x ≡ get_or l k x → among x l ≡ true
-unfolding among
-among_here x [] k h e = absurd (omega arith)
-among_here x (y ∷ l) zero h e = or_left (eqb x y) (among x l) (eq-eqb x y e)
-among_here x (y ∷ l) (suc k) h e = or_right (eqb x y) (among x l) (among_here x l k (omega arith) e)
-
+-- A member of a list passes a test that each passes.
 all_of_among : (l : List ℕ) (p : ℕ → Bool) (x : ℕ) → all_of l p ≡ true → among x l ≡ true → p x ≡ true
 unfolding all_of among
 all_of_among [] p x a m = absurd (false≢true m)
@@ -37,7 +31,7 @@ all_of_among (y ∷ l) p x a m =
 pub link_in : {f : List ℕ} {b m k : ℕ} {l : List ℕ} → Chained f → 1 ≤ b → b ≤ events f → l ≡ links_into f b → k < length l → m ≡ get_or l k m → (1 ≤ m) × (m ≤ links f)
 unfolding within
 link_in {f} {b} {m} {k} {l} c low high all h e =
-    let member = ap (among m) (sym all) ∙ among_here m l k h e in (
+    let member = ap (among m) (sym all) ∙ ap (λ (x : ℕ). among x l) (e ∙ get_or_default_zero l k m h) ∙ among_at l k h in (
       follow_positive (links f) (next_link f) (suc (links f)) (first_link f (b - 1)) m member,
       leb-true m (links f) (all_of_among (links_into f b) (within f) m (c.chains b low high) member),
     )

@@ -37,7 +37,7 @@ pub fn sound(file: &[u8], po: &Grid, m: usize, b: usize) -> bool
     legal::link_sound(file, row::has(after, b), m, b)
 }
 
-// Whether each of the links into b is.
+// Whether each of the links into b is sound. (Loading asks `sound_into`, which takes the rf sources on the same walk.)
 pub fn each_sound(file: &[u8], po: &Grid, b: usize) -> bool
     requires { Chained file.now × (edge po.now ≡ (base nodes (decode file.now)).po) × (1 ≤ b) × (b ≤ events file.now) }
     ensures { result ≡ all_of (links_into file.now b) (link_sound file.now b) }

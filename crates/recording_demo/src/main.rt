@@ -7,6 +7,80 @@ use reading::graph;
 use recording::{causes, links};
 use std::io;
 
+// The recordings, each with what it is: a line for the header and for each record.
+const TRIES: [(&str, &[u8]); 7] = [
+    (
+        "a read of 1 from a write of 1",
+        &[
+            1, 2, 1, 1, 1, 2, 0, 0, //
+            0, 2, 0, 0, 0, 1, 0, 0, //
+            0, 1, 0, 0, 0, 1, 0, 1, //
+            0, 1, 1, 0,
+        ],
+    ),
+    (
+        "a read of 2 from it",
+        &[
+            1, 2, 1, 1, 1, 2, 0, 0, //
+            0, 2, 0, 0, 0, 1, 0, 0, //
+            0, 1, 0, 0, 0, 2, 0, 1, //
+            0, 1, 1, 0,
+        ],
+    ),
+    (
+        "a read of 1 with a data link behind the rf link",
+        &[
+            1, 2, 1, 2, 1, 2, 0, 0, //
+            0, 2, 0, 0, 0, 1, 0, 0, //
+            0, 1, 0, 0, 0, 1, 0, 1, //
+            2, 1, 1, 0, //
+            0, 4, 1, 0,
+        ],
+    ),
+    (
+        "and before it",
+        &[
+            1, 2, 1, 2, 1, 2, 0, 0, //
+            0, 2, 0, 0, 0, 1, 0, 0, //
+            0, 1, 0, 0, 0, 1, 0, 2, //
+            0, 1, 1, 0, //
+            1, 4, 1, 0,
+        ],
+    ),
+    (
+        "a write with a data link from the read before it",
+        &[
+            1, 3, 1, 1, 1, 3, 0, 0, //
+            2, 1, 0, 0, 0, 0, 0, 0, //
+            0, 2, 0, 0, 0, 1, 0, 1, //
+            0, 1, 0, 0, 0, 0, 0, 0, //
+            0, 4, 1, 0,
+        ],
+    ),
+    (
+        "and another from a read of another thread",
+        &[
+            1, 3, 1, 2, 1, 3, 0, 0, //
+            2, 1, 0, 0, 0, 0, 0, 0, //
+            0, 2, 0, 0, 0, 1, 0, 1, //
+            0, 1, 0, 0, 0, 0, 0, 0, //
+            2, 4, 1, 0, //
+            0, 4, 3, 0,
+        ],
+    ),
+    (
+        "a read of 1 from two writes of 1",
+        &[
+            1, 3, 1, 2, 1, 2, 3, 0, //
+            0, 2, 0, 0, 0, 1, 0, 0, //
+            0, 1, 0, 0, 0, 1, 0, 1, //
+            0, 2, 0, 0, 0, 1, 0, 0, //
+            2, 1, 1, 0, //
+            0, 1, 3, 0,
+        ],
+    ),
+];
+
 // Of each event: its number, whether each of the links into it is sound, and whether it also has one rf source.
 fn show(rt: &impl Print, file: &[u8]) -> io::Result<()> {
     let Ok(()) = causes::header_refusal(file) else {
@@ -25,81 +99,9 @@ fn show(rt: &impl Print, file: &[u8]) -> io::Result<()> {
 }
 
 fn main(rt: HostRuntime) -> io::Result<()> {
-    println!(rt; "a read of 1 from a write of 1")?;
-    show(
-        &rt,
-        &[
-            1, 2, 1, 1, 1, 2, 0, 0, //
-            0, 2, 0, 0, 0, 1, 0, 0, //
-            0, 1, 0, 0, 0, 1, 0, 1, //
-            0, 1, 1, 0,
-        ],
-    )?;
-    println!(rt; "a read of 2 from it")?;
-    show(
-        &rt,
-        &[
-            1, 2, 1, 1, 1, 2, 0, 0, //
-            0, 2, 0, 0, 0, 1, 0, 0, //
-            0, 1, 0, 0, 0, 2, 0, 1, //
-            0, 1, 1, 0,
-        ],
-    )?;
-    println!(rt; "a read of 1 with a data link behind the rf link")?;
-    show(
-        &rt,
-        &[
-            1, 2, 1, 2, 1, 2, 0, 0, //
-            0, 2, 0, 0, 0, 1, 0, 0, //
-            0, 1, 0, 0, 0, 1, 0, 1, //
-            2, 1, 1, 0, //
-            0, 4, 1, 0,
-        ],
-    )?;
-    println!(rt; "and before it")?;
-    show(
-        &rt,
-        &[
-            1, 2, 1, 2, 1, 2, 0, 0, //
-            0, 2, 0, 0, 0, 1, 0, 0, //
-            0, 1, 0, 0, 0, 1, 0, 2, //
-            0, 1, 1, 0, //
-            1, 4, 1, 0,
-        ],
-    )?;
-    println!(rt; "a write with a data link from the read before it")?;
-    show(
-        &rt,
-        &[
-            1, 3, 1, 1, 1, 3, 0, 0, //
-            2, 1, 0, 0, 0, 0, 0, 0, //
-            0, 2, 0, 0, 0, 1, 0, 1, //
-            0, 1, 0, 0, 0, 0, 0, 0, //
-            0, 4, 1, 0,
-        ],
-    )?;
-    println!(rt; "and another from a read of another thread")?;
-    show(
-        &rt,
-        &[
-            1, 3, 1, 2, 1, 3, 0, 0, //
-            2, 1, 0, 0, 0, 0, 0, 0, //
-            0, 2, 0, 0, 0, 1, 0, 1, //
-            0, 1, 0, 0, 0, 0, 0, 0, //
-            2, 4, 1, 0, //
-            0, 4, 3, 0,
-        ],
-    )?;
-    println!(rt; "a read of 1 from two writes of 1")?;
-    show(
-        &rt,
-        &[
-            1, 3, 1, 2, 1, 2, 3, 0, //
-            0, 2, 0, 0, 0, 1, 0, 0, //
-            0, 1, 0, 0, 0, 1, 0, 1, //
-            0, 2, 0, 0, 0, 1, 0, 0, //
-            2, 1, 1, 0, //
-            0, 1, 3, 0,
-        ],
-    )
+    for (what, file) in TRIES {
+        println!(rt; "{what}")?;
+        show(&rt, file)?;
+    }
+    Ok(())
 }

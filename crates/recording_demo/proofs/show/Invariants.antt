@@ -1,4 +1,4 @@
--- `show` may call what it calls: the links stand on chains within the file, and po is program order.
+-- What lasts from event to event: the links stand on chains within the file, and po is program order.
 use mathlib.Core.Path.{◌≡◌}
 use Rattle.relation.specs.Bits.{edge}
 use Rattle.relation.specs.Rel.{nodes}
